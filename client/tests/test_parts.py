@@ -5,8 +5,8 @@ import time
 from voltizug import faults, layout, loops, near, options, reports, rows, warn, words
 from voltizug.bench import Edit
 from voltizug.conditions import Routine
+from voltizug.editor.names import Names
 from voltizug.kept import Kept
-from voltizug.names import Names
 from voltizug.places import Places, line_and_column
 from voltizug.program import Reply
 
@@ -111,12 +111,12 @@ class Others(Case):
         self.assertEqual(len(rows.rows_of(["routine," + "x" * 1000000])[0][1]), 1000000)
 
     def test_why_shows_the_test_that_was_false(self):
-        events = rows.read("events", ["call,0,stem", "call,1,r", "put,1,r,0,1,k,kats", "test,1,r,1,f", "return,1,r,f", "return,0,stem,t", "stem,kats"])
+        events = rows.read("events", ["call,0,stem", "call,1,r", "put,1,r,0,1,k,kats", "return,1,r,f", "return,0,stem,t", "stem,kats"])
         found = rows.read("places", ["routine,r,0,20,1,1"])
         places = Places("my.sbl", b"define r as 'x' and more", b"define r as 'x' and more", found, [])
-        routine = Routine("r", rows.tokens(["word,0,6,define", "name,7,8,r", "word,9,11,as", "literal,12,15,'x'"]), {}, False)
-        tests = {("r", "1"): (routine, routine.tests[0])}
-        lines = reports.why("cats", events, rows.read("integers", ["steps,5"]), places, tests)
+        routine = Routine("r", rows.tokens(["word,0,6,define", "name,7,8,r", "word,9,11,as", "literal,12,15,'x'"]), {})
+        events.insert(3, routine.asked(routine.tests[0])._replace(signal="f"))
+        lines = reports.why("cats", events, rows.read("integers", ["steps,5"]), places)
         self.assertEqual(lines[1:3], ["  r     'x' is false   my.sbl:1:13", "  stem  r is false"])
 
     def test_warnings(self):

@@ -147,6 +147,12 @@ class Sessions(Case):
         terminal = self.begin(lines=6, term="xterm", PAGER="sh -c 'cat; echo $LESSSECURE $LESS'")
         self.assertRegex(terminal.type("stems\r", rb"goes back"), r"university +univers\n1 FRXPs.*q goes back")
 
+    def test_figures_come_after_the_pager(self):
+        terminal = self.begin(lines=6, term="xterm", PAGER="head -n 1")
+        terminal.enter("routine plural", "true", ".")
+        # (the pager shows the first line only)
+        self.assertEqual(terminal.enter("changes").split("\n"), ["  news       new -> news", "3 words, 3 split since the mark"])
+
     def test_blanks_before_a_name_or_a_number(self):
         terminal = self.begin()
         self.assertIn("univers: ", terminal.enter("largest  1"))
@@ -208,6 +214,15 @@ class Traps(Case):
         terminal.save(AUTHOR.replace("'ity' ", ""))
         self.assertIn("1 word, 1 split since the mark", terminal.got(rb"mark\n(.|\n)*glas$"))
         self.assertIn("glass: glass, glasses", terminal.type("s\r"))
+
+    def test_a_file_that_is_empty_for_a_moment(self):
+        terminal = self.begin()
+        terminal.save("")
+        self.assertNotIn("declares no external", terminal.got(None, 0.5))
+        terminal.save(AUTHOR.replace("'ity' ", ""))
+        self.assertNotIn("declares no external", terminal.got(rb"since the mark"))
+        terminal.save("")
+        self.assertIn("my.sbl: the script declares no external", terminal.got(rb"Correct it"))
 
     def test_ctrl_c_drops_lines_and_none_besides(self):
         terminal = self.begin()

@@ -2,6 +2,7 @@
 own, and makes no sentence.
 """
 import os
+import time
 from typing import Any, Callable, Dict, List, NamedTuple, Optional, Sequence, Set, Tuple
 
 from . import rows
@@ -35,9 +36,10 @@ class Stage:
         self.known_places: Optional[Places] = None
 
     def saved(self) -> Dict[str, FileState]:
-        """Returns the files that were saved since they were read, with their states. (An editor may take a file away for a moment.)"""
+        """Returns the files that were saved since they were read, with their states. (An editor may take a file away or empty it for a moment.)"""
         now = {path: (state_of(path), state) for path, state in dict(self.seen).items()}
-        return {path: state for path, (state, before) in now.items() if state not in (None, before)}
+        changed = {path: state for path, (state, before) in now.items() if state and state != before}
+        return {path: state for path, state in changed.items() if state[1] or abs(time.time() - state[0] / 1e9) > 1}
 
     def settled(self, reply: Reply) -> Reply:
         """Returns the reply after what has to be done if the program is gone."""
@@ -64,6 +66,9 @@ class Stage:
     def outcomes(self) -> List[rows.Outcome]:
         return rows.outcomes(self.known("stems") or [])
 
+    def by_word(self) -> Dict[str, rows.Outcome]:
+        return {row.word: row for row in self.outcomes()}
+
 
 class Bench(Stage):
     """A script and words at work."""
@@ -78,7 +83,7 @@ class Bench(Stage):
         self.written, self.refused_text, self.is_older = {}, None, False  # type: Dict[str, FileState], Optional[bytes], bool
         # The texts that were read, by their hashes; by the hash of a text that was saved to SCRIPT, what SCRIPT had before.
         self.read_texts, self.replaced = set(), {}  # type: Set[int], Dict[int, bytes]
-        # The texts that reload put aside, with the names of their edits; the words that were added; what differs from the mark.
+        # The texts that reload put aside, with the names of their edits; the words that were added; what differs from the mark; families.
         self.aside, self.added, self.changes = [], [], []  # type: List[Tuple[bytes, Tuple[str, ...]]], List[str], List[Any]
         self.families, self.pairs = "", ()  # type: str, Tuple[Any, ...]
 
@@ -89,7 +94,7 @@ class Bench(Stage):
         reply = self.program.start()
         self.is_waiting = not reply.is_done
         if reply.is_done:
-            self.size = next(int(row.count) for row in rows.read("stats", reply.lines) if row.kind == "words")
+            self.size = rows.figures(reply.lines)["words"]
             self.note_file()
             self.read_texts.add(hash(self.file_text))
         return reply
@@ -125,13 +130,14 @@ class Bench(Stage):
 
     # Asking
 
-    def ask(self, line: str) -> Reply:
-        reply = self.settled(self.program.ask([line]))
+    def ask(self, *lines: str) -> Reply:
+        """Asks for something that is no edit."""
+        reply = self.settled(self.program.ask(lines))
         if reply.state == ENDED:
             # (somebody killed the program, and it is there again)
-            reply = self.settled(self.program.ask([line]))
+            reply = self.settled(self.program.ask(lines))
         if reply.is_done:
-            self.note(line, reply)
+            self.note(lines[0], reply)
         return reply
 
     def note(self, line: str, reply: Reply) -> None:
@@ -238,14 +244,15 @@ class Bench(Stage):
     # Files
 
     def may_write(self, word: str, path: str) -> str:
-        """Returns a key of words.MAY_NOT if `save` or `approve` should not write to a file, or only if it is asked for again (with a ?)."""
-        is_script, name = is_same(path, self.script), os.path.realpath(path)
-        is_refused = self.refused_text is not None and self.refused_text == read_file(self.script)
-        return next((key for is_so, key in (
-            (is_same(path, self.words), "words"), (is_script and word == "approve", "script"), (is_script and is_refused, "refused?"),
-            (is_script and self.script in self.saved(), "changed"), (is_script and self.is_older, "undone?"),
-            (is_script or not os.path.isfile(path), ""), (name not in self.written, "there"), (self.written.get(name) != state_of(path), "others"),
-        ) if is_so), "")
+        """Returns a key of words.MAY_NOT if `save` or `approve` should not write to a file, or only if it is asked for again (with a ?), though
+        the program would."""
+        if is_same(path, self.script) and word == "save":
+            is_refused = self.refused_text is not None and self.refused_text == read_file(self.script)
+            return "refused?" if is_refused else "undone?" if self.is_older and self.script not in self.saved() else ""
+        name = os.path.realpath(path)
+        if not os.path.isfile(path) or is_same(path, self.script) or is_same(path, self.words):
+            return ""
+        return "there" if name not in self.written else "others" if self.written[name] != state_of(path) else ""
 
     def write(self, word: str, path: str) -> Reply:
         """Has the program write the script (`save`) or the stems (`approve`) to a file."""
@@ -264,7 +271,6 @@ class Bench(Stage):
 
 
 def pairs_of(*replies: Reply) -> Tuple[Any, ...]:
-    """Returns the figures of families."""
     return tuple(row for reply in replies for row in rows.read("families", reply.lines) if row.kind == "pairs")
 
 

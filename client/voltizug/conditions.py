@@ -2,12 +2,12 @@
 found by the tokens that the program tells. It tells the calls of routines, too: so it runs the word by a copy of the script in which each test is a
 routine of its own. If the copy does not do the same otherwise, nothing is told.
 """
+from collections import namedtuple
 from itertools import accumulate
-from typing import Any, Collection, Dict, Iterator, List, NamedTuple, Sequence, Tuple
+from typing import Any, Collection, Dict, List, Sequence, Tuple
 
 from . import rows
 from .layout import named
-from .names import Names
 from .places import Places
 from .program import Memory, Program, encoded
 from .rows import Token
@@ -19,177 +19,138 @@ PARTS: Dict[str, Sequence[str]] = {
     **dict.fromkeys("setmark set unset -> <- <+ insert attach".split(), ["take"]), "(": ["bracket"], "among": ["among"],
     **dict.fromkeys("[ ] substring tolimit delete true next atlimit false".split(), []),
 }
-COMPARISONS, OTHER_OPERATORS = "== != < <= > >=".split(), "+ - * / = += -= *= /=".split()
-TESTS = "hop atmark tomark next atlimit false non not fail".split()
+COMPARISONS, OPERATORS = "== != < <= > >=".split(), "== != < <= > >= + - * / = += -= *= /=".split()
+TESTS, NEGATIVE = "hop atmark tomark next atlimit false non not fail".split(), ("not", "fail")
 # How many letters of a row of commands are shown at most; the largest limit of steps.
 LONGEST, MOST_STEPS = 60, 10000000
-# A row of events: the test N of the routine NAME was true (t) or false (f). After one of the kind `unknown` there may be others.
-Asked = rows.KINDS["events"]["test"]
-UNKNOWN = Asked("unknown", "", "", "", "")
-
-
-class Test(NamedTuple):
-    """A test of a routine: its tokens; whether it is in a backward mode, and whether it is a `not` or `fail`, which is false if its command signals
-    t; and the largest and the smallest row of commands around it, as far as the body of the routine or the command of an among."""
-
-    tokens: Sequence[Token]
-    is_backward: bool
-    is_turned: bool
-    rows: Sequence[Sequence[Token]]
-
-    @property
-    def text(self) -> str:
-        return text_of(self.tokens)
-
-    @property
-    def row(self) -> Sequence[Token]:
-        """The largest row that is not too long to be shown."""
-        return next((row for row in self.rows if len(text_of(row)) <= LONGEST), self.tokens)
+# Where the body begins, after `define NAME as`.
+BODY = 3
+# A test in the events of a run: TEXT, from the byte START on, and the ROW of commands with `or` and `and` in which it is, if that is not too long.
+# A `not` or a `fail` is negative: it is told only if it was false. In a plain routine each substring is in the same row of commands as its among, so
+# no among can fail for a search that found nothing before other commands. After a row of the kind `unknown` there may be other tests.
+Asked = namedtuple("Asked", "kind name start text row_start row is_negative is_plain signal", defaults=("", 0, "", 0, "", False, False, ""))
+# A test by the numbers of its first token and of the one after it; whether it is inside `backwards`; and the rows that it is in.
+Test = Tuple[int, int, bool, List[List[int]]]
 
 
 class Routine:
-    """The tests in the definition of a routine, which begins at one of the tokens. A text that is not as expected is a LookupError.
-    `is_plain`: no among can fail for a search that found nothing before other commands, since each substring is in the same row of commands as
-    its among."""
+    """The tests in the definition of a routine, by its tokens. A text that is not as expected is a LookupError."""
 
-    def __init__(self, name: str, tokens: Sequence[Token], routines: Collection[str], is_backward: bool, begin: int = 0):
-        self.name, self.tokens, self.routines, self.is_backward, self.start = name, tokens, routines, is_backward, tokens[begin].start
-        # (after `define NAME as`)
-        self.at, self.pairs, self.is_turned_back = begin + 3, 0, is_backward
-        # The rows that are open, each with its begin and its end, and how many of them are around the body, or around an among.
-        self.open, self.around = [], 1  # type: List[List[int]], int
-        self.found: List[Tuple[int, int, bool, List[List[int]]]] = []
-        self.row()
-        self.is_plain = self.pairs == sum(token.text == "substring" for token in tokens[begin : self.at])
-        # (of a row that is too long to be shown the beginning is enough)
-        self.tests = [
-            Test(tokens[a:b], mode, tokens[a].text in ("not", "fail"), [tokens[c : min(d, c + LONGEST + 1)] for c, d in (rows[0], rows[-1])])
-            for a, b, mode, rows in self.found
-        ]
+    def __init__(self, name: str, tokens: Sequence[Token], routines: Collection[str]):
+        self.name, self.tokens, self.routines, self.at, self.pairs = name, tokens, routines, BODY, 0
+        self.tests: List[Test] = []
+        self.row([], False)
+        self.is_plain = self.pairs == sum(token.text == "substring" for token in tokens)
 
     def peek(self) -> str:
         return self.tokens[self.at].text if self.at < len(self.tokens) else ""
 
-    def take(self) -> str:
+    def take(self, *_: object) -> str:
         self.at += 1
         return self.tokens[self.at - 1].text
 
-    def row(self) -> List[str]:
-        """Reads commands with `or` and `and` between them; returns the first words."""
+    def row(self, around: List[List[int]], is_back: bool) -> str:
+        """Reads commands with `or` and `and` between them."""
         row = [self.at, self.at]
-        self.open.append(row)
-        self.command()
+        self.command([*around, row], is_back)
         while self.peek() in ("or", "and"):
             self.at += 1
-            self.command()
+            self.command([*around, row], is_back)
         row[1] = self.at
-        self.open.pop()
-        return [token.text for token in self.tokens[row[0] : min(row[1], row[0] + 3)]]
+        return " ".join(token.text for token in self.tokens[row[0] : min(row[1], row[0] + 3)])
 
-    def command(self) -> None:
-        begin, mode, token = self.at, self.is_turned_back, self.tokens[self.at]
-        word, is_name = self.take(), token.kind in ("name", "literal")
-        self.is_turned_back |= word == "backwards"
-        for part in PARTS[word] if not is_name else ():
-            getattr(self, part)()
-        self.is_turned_back = mode
+    def command(self, around: List[List[int]], is_back: bool) -> None:
+        begin, is_name, word = self.at, self.tokens[self.at].kind in ("name", "literal"), self.take()
+        for part in [] if is_name else PARTS[word]:
+            getattr(self, part)(around, is_back or word == "backwards")
         is_compared = word == "$" and any(token.text in COMPARISONS for token in self.tokens[begin : self.at])
-        if is_compared or word in TESTS or is_name and word not in self.routines:
-            self.found.append((begin, self.at, mode, self.open[self.around :] or self.open[:1]))
+        if word not in self.routines if is_name else is_compared or word in TESTS:
+            self.tests.append((begin, self.at, is_back, around))
 
-    def bracket(self) -> None:
+    def bracket(self, around: List[List[int]], is_back: bool) -> None:
         """Reads commands up to a closing parenthesis, and counts the amongs whose substring is among these commands."""
         found = ""
         while self.peek() != ")":
-            words = self.row()
-            found += "a" if words[0] == "among" else "s" * (words in (["substring"], ["test", "substring"]))
+            row = self.row(around, is_back)
+            found += "a" if row.startswith("among ") else "s" * (row in ("substring", "test substring"))
         self.at += 1
         self.pairs += found.count("sa")
 
-    def among(self) -> None:
-        around, self.around = self.around, len(self.open)
+    def among(self, _: List[List[int]], is_back: bool) -> None:
         self.at += 1
         while self.peek() != ")":
             if self.take() == "(":
-                self.bracket()
+                self.bracket([], is_back)
         self.at += 1
-        self.around = around
 
-    def number(self) -> None:
+    def number(self, *_: object) -> None:
         """Reads what is worked out, up to the last number."""
         word = self.take()
         if word in ("(", "-"):
             self.number()
         self.at += word in ("(", "lenof")
-        if self.peek() in COMPARISONS or self.peek() in OTHER_OPERATORS:
+        if self.peek() in OPERATORS:
             self.at += 1
             self.number()
 
+    def asked(self, test: Test) -> Any:
+        """Returns a test as it is shown, without its signal."""
+        begin, end, _, around = test
+        # (the body as a whole is no row that one reads)
+        around = around[around[0][0] == BODY and len(around) > 1 :]
+        spans = [span for span in around if span[1] - span[0] <= LONGEST and len(self.text(*span)) <= LONGEST] + [[begin, end]]
+        starts = [self.tokens[at].start for at in (begin, spans[0][0])]
+        is_negative = self.tokens[begin].text in NEGATIVE
+        return Asked("test", self.name, starts[0], self.text(begin, end), starts[1], self.text(*spans[0]), is_negative, self.is_plain)
+
+    def text(self, begin: int, end: int) -> str:
+        """Returns the text of tokens as the author wrote it but for comments and line ends."""
+        part = self.tokens[begin:end]
+        return named(part[0].text + "".join(" " * (token.start > before.end) + token.text for before, token in zip(part, part[1:])))
+
 
 def routines_of(places: Places) -> List[Routine]:
-    """Returns the routines of a script that the program accepts, with their tests."""
-    names = Names(places.tokens)
-    routines = [item for item in names.order if item.is_routine]
-    known = {item.name.text for item in routines}
-    return [Routine(item.name.text, names.tokens, known, item.is_backward, item.first) for item in routines]
+    """Returns the routines of a script with their tests."""
+    names = places.of_kind("routine")
+    return [Routine(name, places.part(name), names) for name in names]
 
 
-def text_of(tokens: Sequence[Token]) -> str:
-    """Returns the text of tokens as the author wrote it but for comments and line ends."""
-    return named(tokens[0].text + "".join(" " * (token.start > before.end) + token.text for before, token in zip(tokens, tokens[1:])))
-
-
-class Found(NamedTuple):
-    """The events of a run with its tests, if they are known, and the tests by the names of their routines and their own."""
-
-    events: List[Any]
-    tests: Dict[Tuple[str, str], Tuple[Routine, Test]] = {}
-    is_known: bool = False
-
-
-def with_tests(program: Program, places: Places, word: str, events: Sequence[Any], figures: Sequence[Any]) -> Found:
-    """Returns the events of the run of a word, which has these figures, with its tests as far as these can be known."""
+def with_tests(program: Program, places: Places, word: str, events: List[Any], figures: Sequence[Any]) -> Tuple[List[Any], bool]:
+    """Returns the events of the run of a word, which has these figures, with its tests as far as these can be known, and whether they can."""
     try:
         copy, steps, is_endless = Copy(routines_of(places), places), int(figures[0].count), events[-1][:2] == ("refused", "Steps")
         # (its calls take steps, too; if the run was refused for its steps, the copy may not go further than it)
-        told = copy.events(program, word, steps - 1 if is_endless else min(4 * steps + 100, MOST_STEPS))
+        found = copy.events(program, word, steps - 1 if is_endless else min(4 * steps + 100, MOST_STEPS))
     except (LookupError, ValueError, RecursionError, OSError):
-        return Found(list(events))
-    known = agreed(events, [row for row in told if row.kind != "test"])
-    found = [row for row, count in zip(told, accumulate(row.kind != "test" for row in told)) if count <= known]
-    tests = {(routine.name, name): (routine, test) for name, (routine, test) in copy.tests.items()}
-    end = [UNKNOWN] if known < len(events) or is_endless else []
-    return Found([*found, *end, *events[known:]], tests, True) if known else Found(list(events))
+        return events, False
+    known = agreed(events, [row for row in found if row.kind != "test"])
+    both = [row for row, count in zip(found, accumulate(row.kind != "test" for row in found)) if count <= known]
+    end = [Asked("unknown")] if known < len(events) or is_endless else []
+    return ([*both, *end, *events[known:]], True) if known else (events, False)
 
 
 class Copy:
-    """The copy of a script. `tests` has each test with its routine, by the name of the routine that it is in the copy."""
+    """The copy of a script, and its tests by the names of their routines in it."""
 
     def __init__(self, routines: Sequence[Routine], places: Places):
-        self.prefix, parts, at = "test_", [], 0  # type: str, List[bytes], int
-        while any(token.text.startswith(self.prefix) for token in places.tokens):
-            self.prefix += "x"
         self.tests: Dict[str, Tuple[Routine, Test]] = {}
-        for start, end, new in sorted((edit for routine in routines for edit in self.edits(routine)), key=lambda edit: edit[:2]):
+        edits, parts, at = [], [], 0  # type: List[Tuple[int, int, str]], List[bytes], int
+        prefix = "test_" + "x" * max((len(token.text) for token in places.tokens if token.text.startswith("test_")), default=0)
+        for routine in routines:
+            definitions = ""
+            for test in routine.tests:
+                name, (first, after, is_back, _) = prefix + str(len(self.tests)), test
+                self.tests[name] = routine, test
+                tokens, is_negative = routine.tokens[first:after], routine.tokens[first].text in NEGATIVE
+                start, end = tokens[is_negative].start, tokens[-1].end
+                edits += [(start, start, " ( "), (end, end, " %s ) " % name)] if is_negative else [(start, end, " %s " % name)]
+                define = "define %s as %s" % (name, "true" if is_negative else " ".join(token.text for token in tokens))
+                definitions += "routines ( %s ) %s\n" % (name, "backwardmode ( %s )" % define if is_back else define)
+            edits.append((routine.tokens[0].start, routine.tokens[0].start, definitions))
+        for start, end, new in sorted(edits, key=lambda edit: edit[:2]):
             parts += [places.text[at:start], encoded(new)]
             at = end
         self.text = b"".join(parts) + places.text[at:]
-
-    def edits(self, routine: Routine) -> Iterator[Tuple[int, int, str]]:
-        """Yields the start, the end and the new text of each part of a routine that is replaced, and the definitions of its tests."""
-        definitions = ""
-        for test in routine.tests:
-            name, start, end = "%s%d" % (self.prefix, len(self.tests)), test.tokens[test.is_turned].start, test.tokens[-1].end
-            self.tests[name] = routine, test
-            if test.is_turned:
-                yield start, start, " ( "
-                yield end, end, " %s ) " % name
-            else:
-                yield start, end, " %s " % name
-            define = "define %s as %s" % (name, "true" if test.is_turned else " ".join(token.text for token in test.tokens))
-            define = define if test.is_backward == routine.is_backward else "backwardmode ( %s )" % define
-            definitions += "routines ( %s ) %s\n" % (name, define)
-        yield routine.start, routine.start, definitions
 
     def events(self, program: Program, word: str, limit: int) -> List[Any]:
         """Returns the events of a word's run by the copy under a limit, with its tests; none if it cannot be run."""
@@ -201,15 +162,12 @@ class Copy:
         finally:
             runner.stop()
         found = rows.read("events", reply.lines) if limited.is_done and reply.is_done else []
-        return [told for row in found for told in self.told(row)]
-
-    def told(self, row: Any) -> List[Any]:
-        """Returns a row of events; of the routine of a test the test in the place of its end, and nothing in that of its call."""
-        if row.kind not in ("call", "return") or row.name not in self.tests:
-            return [row]
-        routine, test = self.tests[row.name]
-        is_true = row.kind == "return" and (row.signal == "t") != test.is_turned
-        return [Asked("test", "", routine.name, row.name, "t" if is_true else "f")] * (row.kind == "return")
+        asked = {name: self.tests[name][0].asked(self.tests[name][1]) for name in self.tests.keys() & {getattr(row, "name", "") for row in found}}
+        # (of the routine of a test there is the test in the place of its end, and nothing in that of its call)
+        for i, row in enumerate(found):
+            test = asked.get(getattr(row, "name", ""))
+            found[i] = row if not test else test._replace(signal="f" if test.is_negative else row.signal) if row.kind == "return" else None
+        return [row for row in found if row]
 
 
 def agreed(events: Sequence[Any], kept: Sequence[Any]) -> int:

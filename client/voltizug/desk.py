@@ -36,10 +36,8 @@ class Desk:
         self.completion = Completion(bench)
         self.editor = Editor(bench.kept.history, self.completion.complete, bench.saved if options.is_watching else None, self.show_saved)
         self.screen = Screen(self.editor, options.color, options.has_pager)
-        # Warnings that were given; lines in a row that are no command.
-        self.warned, self.nonsense = [], 0  # type: List[str], int
-        # Whether WORDS was saved since it was read.
-        self.has_old_words = False
+        # Warnings that were given, and lints; lines in a row that are no command; whether WORDS was saved since it was read.
+        self.warned, self.linted, self.nonsense, self.has_old_words = [], [], 0, False  # type: List[str], List[str], int, bool
         # The files and what they had; whether `work` has waited for one without its fault; the status with which it ends.
         self.paths = [path for path in (bench.script, bench.words) if path]
         self.files: Sequence[Optional[bytes]] = ()
@@ -95,8 +93,8 @@ class Desk:
 
     def show_figures(self, reply: Reply) -> None:
         """Shows figures, and what to do if there are no words or some are refused; also that typed edits were left behind."""
-        bench, say, figures = self.bench, self.screen.say, {row.kind: int(row.count) for row in rows.read("stats", reply.lines)}
-        say(*self.new_lines(lints.lints(bench)))
+        bench, say, figures = self.bench, self.screen.say, rows.figures(reply.lines)
+        say(*self.new_lints())
         refused = [row for row in bench.outcomes() if row.kind == "refused"] if figures["refused"] else []
         for row in refused[:1]:
             first = "The first refused word is %s (%s)." % (words.in_quotes(row.word), row.stem)
@@ -147,12 +145,10 @@ class Desk:
     # What becomes of a request
 
     def tell_long(self) -> None:
-        if self.bench.is_waiting:
-            ends = "breaks it off" if self.has_waited else "ends it"
-            self.screen.say("This takes long. Ctrl-C %s. It may be that the script loops." % ends)
-        else:
-            breaks = "" if self.bench.program.is_deaf else "Ctrl-C breaks it off. "
-            self.screen.say('This takes long. %sIf the script loops, "limit 1000" lets each run end sooner.' % breaks)
+        ends = "ends it" if self.bench.is_waiting and not self.has_waited else "breaks it off"
+        how = "" if self.bench.program.is_deaf else "Ctrl-C %s. " % ends
+        loops = "It may be that the script loops." if self.bench.is_waiting else 'If the script loops, "limit 1000" lets each run end sooner.'
+        self.screen.say("This takes long. %s%s" % (how, loops))
 
     def settle(self, reply: Reply) -> bool:
         """Says what became of a reply that is no answer; returns whether it is one."""
@@ -193,8 +189,9 @@ class Desk:
         elif code == 48 and not reply.said:
             # (a fault of the whole script has no line)
             said = "%s. %s" % (name, said)
-        found, most = self.bench.read("faults")[1:], max(1, self.screen.size().lines // 3)
-        others = [layout.cut(layout.named("also %s:%s: %s" % row[5:8]), self.screen.size().columns) for row in found[:most]]
+        found, most = self.bench.read("faults")[1:] if code == 48 else [], max(1, self.screen.size().lines // 3)
+        others = ["also %s:%s: %s" % row[5:8] if row.line else "also: " + row.sentence for row in found[:most]]
+        others = [layout.cut(layout.named(line), self.screen.size().columns) for line in others]
         self.screen.say(said, *others, "{:,} more faults".format(len(found) - most) if len(found) > most else "")
         self.nonsense = self.nonsense + 1 if code == 52 and self.editor.has_key() else 0
         # (of a script that was pasted one line is enough)
@@ -211,15 +208,15 @@ class Desk:
         for line in faults.shown(said, self.bench.script, kept.read_file(self.bench.script), self.screen.size().columns):
             self.screen.write([line], is_text=line.startswith(faults.INDENT))
 
-    def new_lines(self, lines: Sequence[str]) -> List[str]:
-        """Returns the warnings that were not given before, and notes them."""
-        found = [line for line in lines if line not in self.warned]
-        self.warned += found
-        return found
+    def new_lints(self) -> List[str]:
+        """Returns what was not meant, perhaps, and was not there before. (A mistake that comes back is told again.)"""
+        before, self.linted = self.linted, lints.lints(self.bench)
+        return [line for line in self.linted if line not in before]
 
     def warn(self, path: Optional[str] = None) -> bool:
-        """Gives the warnings on the script, and on a list of words. Returns whether there is one."""
-        found = self.new_lines(warn.warnings_on(self.bench.script, path))
+        """Gives the warnings on the script, and on a list of words, that were not given before. Returns whether there is one."""
+        found = [line for line in warn.warnings_on(self.bench.script, path) if line not in self.warned]
+        self.warned += found
         self.screen.write(found, is_text=True)
         return bool(found)
 
@@ -240,19 +237,18 @@ class Desk:
             self.warn()
         own = edit.changes if edit.own is None else edit.own
         refused = [row.word for row in own if row.kind == "changed" and row.new_kind == "refused" and row.new in loops.NAMES]
-        tail = [*(self.new_lines(lints.lints(self.bench)) if is_reload else []), self.turning(refused[0]) if refused else ""]
+        tail = [*(self.new_lints() if is_reload else []), self.turning(refused[0]) if refused else ""]
         note = words.NOTES.get(edit.note, "").format(script=short(self.bench.script))
         last = self.screen.broken([line for line in [*tail, note, self.note_words(), layout.families_line(edit.pairs), layout.summary(edit)] if line])
         size = self.screen.size()
         room = max(1, size.lines - len(last) - 1 - self.editor.rows_typed(size.columns))
-        found = layout.changes(own, self.outcomes(own), room, '"changes" shows all' + " since the mark" * (own is not edit.changes))
+        found = layout.changes(own, self.added(own), room, '"changes" shows all' + " since the mark" * (own is not edit.changes))
         self.screen.write([layout.cut(layout.named(line), size.columns) for line in found] + last)
         return True
 
-    def outcomes(self, changes: Sequence[Any]) -> Dict[str, rows.Outcome]:
+    def added(self, changes: Sequence[Any]) -> Dict[str, rows.Outcome]:
         """Returns the outcomes of the words if some were added, by the words."""
-        return {row.word: row for row in self.bench.outcomes()} if any(row.kind == "added" for row in changes) else {}
+        return self.bench.by_word() if any(row.kind == "added" for row in changes) else {}
 
     def turning(self, word: str) -> str:
-        """Returns the sentence on what goes round in the run of a word."""
         return loops.turning(word, self.bench.read("events " + word), self.bench)

@@ -47,6 +47,10 @@ def shown(said: Sequence[str], script: str, text: Optional[bytes], width: int) -
         word = [*lines[i + 1].split(), ""][0]
         if text and b"stringescapes" not in text and ": } can only be" in line:
             lines[i] += ". A literal with {..} needs stringescapes {} above it"
+        elif re.search(r"\w can only be in a literal", line) and lines[i + 1].count("'") % 2:
+            lines[i] += ". Look for a missing quote before it, too"
+        elif " => is of Snowball" in line:
+            lines[i] += ". Did you mean >=?"
         elif " can only be in a literal" in line and word not in ITEMS and meant(word, ITEMS):
             lines[i] += "." + meant(word, ITEMS)
     if (text or b"").startswith(BOM):

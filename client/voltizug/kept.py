@@ -109,6 +109,10 @@ def read_file(path: Optional[str]) -> Optional[bytes]:
     return None
 
 
+def read_lines(path: Optional[str]) -> List[bytes]:
+    return (read_file(path) or b"").splitlines()
+
+
 def is_same(path: str, other: Optional[str]) -> bool:
     with contextlib.suppress(OSError, ValueError):
         return bool(other) and os.path.samefile(path, other or "")

@@ -34,25 +34,17 @@ class Hangup(BaseException):
     """The terminal is gone, or somebody ends this process."""
 
 
-class Library:
-    """What the module readline does not offer, from the library that it has loaded. Without that (libedit), a save waits for the next line."""
-
-    def __init__(self) -> None:
-        self.libc = ctypes.CDLL(None)
-        try:
-            library: Any = ctypes.CDLL(readline.__file__)
-            self.clear_line, self.on_new_line = library.rl_clear_visible_line, library.rl_on_new_line
-            self.redisplay, self.prepare, self.restore = library.rl_forced_update_display, library.rl_prep_terminal, library.rl_deprep_terminal
-            self.state, self.mode = ctypes.c_ulong.in_dll(library, "rl_readline_state"), ctypes.c_int.in_dll(library, "rl_editing_mode")
-            self.is_whole = True
-        except (OSError, AttributeError, ValueError):
-            self.is_whole = False
-
-    def draw(self) -> None:
-        """Draws the line again, below what is on the screen."""
-        sys.stdout.flush()
-        self.on_new_line()
-        self.redisplay()
+def loaded_readline() -> Any:
+    """Returns the library that the module readline has loaded, with its state and its editing mode; nothing if it lacks what that module does not
+    offer (libedit): then a save waits for the next line."""
+    try:
+        library: Any = ctypes.CDLL(readline.__file__)
+        for name in ("rl_clear_visible_line", "rl_on_new_line", "rl_forced_update_display", "rl_prep_terminal", "rl_deprep_terminal"):
+            getattr(library, name)
+        library.state, library.mode = ctypes.c_ulong.in_dll(library, "rl_readline_state"), ctypes.c_int.in_dll(library, "rl_editing_mode")
+        return library
+    except (OSError, AttributeError, ValueError):
+        return None
 
 
 def set_keys(settings: List[Any], is_needed: bool = False) -> None:
@@ -61,10 +53,11 @@ def set_keys(settings: List[Any], is_needed: bool = False) -> None:
         try:
             return termios.tcsetattr(0, termios.TCSANOW, settings)
         except termios.error as why:
-            if why.args[0] != errno.EINTR:
-                if is_needed:
-                    raise Hangup from None
-                return None
+            if why.args[0] == errno.EINTR:
+                continue
+            if is_needed:
+                raise Hangup from None
+            return None
 
 
 def with_interrupt(settings: List[Any], character: bytes) -> List[Any]:
@@ -78,7 +71,7 @@ class Editor:
     runs it is a signal, and no key is shown."""
 
     def __init__(self, history: str, complete: Callable[[str, str], List[str]], saved: Optional[Callable[[], Any]], show_saved: Callable[[], None]):
-        self.library, self.history, self.complete_text, self.saved, self.show_saved = Library(), history, complete, saved, show_saved
+        self.library, self.history, self.complete_text, self.saved, self.show_saved = loaded_readline(), history, complete, saved, show_saved
         self.base = termios.tcgetattr(0)
         self.typing = with_interrupt(self.base, b"\0")
         self.quiet = with_interrupt([*self.base[:3], self.base[3] & ~(termios.ECHO | termios.ICANON), *self.base[4:]], INTERRUPT)
@@ -121,8 +114,8 @@ class Editor:
 
     def hear_stop(self, *_: object) -> None:
         """Ctrl-Z: gives the terminal back, and takes it again after fg."""
-        if self.is_waiting and self.library.is_whole:
-            self.library.restore()
+        if self.is_waiting and self.library:
+            self.library.rl_deprep_terminal()
         print(flush=True)
         set_keys(self.base)
         signal.signal(signal.SIGTSTP, signal.SIG_DFL)
@@ -131,9 +124,15 @@ class Editor:
 
     def hear_continue(self, *_: object) -> None:
         set_keys(self.typing if self.is_waiting else self.quiet)
-        if self.is_waiting and self.library.is_whole:
-            self.library.prepare(1)
-            self.library.draw()
+        if self.is_waiting and self.library:
+            self.library.rl_prep_terminal(1)
+            self.draw()
+
+    def draw(self) -> None:
+        """Draws the line again, below what is on the screen."""
+        sys.stdout.flush()
+        self.library.rl_on_new_line()
+        self.library.rl_forced_update_display()
 
     def hear_ring(self, *_: object) -> None:
         """While a line is typed, every so often: shows what was saved and is not being written. CPython hears a signal that comes just before
@@ -141,7 +140,7 @@ class Editor:
         if self.is_ended:
             raise Hangup
         # (it may be heard only after Enter, and then readline has no line)
-        has_line = self.is_waiting and self.library.is_whole and self.library.state.value & CALLBACK
+        has_line = self.is_waiting and self.library and self.library.state.value & CALLBACK
         before, self.looked = self.looked, self.saved() if self.saved and has_line else None
         if has_line and self.looked != before:
             signal.setitimer(signal.ITIMER_REAL, SOON, PERIOD)
@@ -152,12 +151,12 @@ class Editor:
         try:
             set_keys(with_interrupt(now, INTERRUPT))
             # (also a line that is several rows long)
-            self.library.clear_line()
-            self.library.libc.fflush(None)
+            self.library.rl_clear_visible_line()
+            ctypes.CDLL(None).fflush(None)
             self.show_saved()
             set_keys(now)
             self.is_interrupted = False
-            self.library.draw()
+            self.draw()
         finally:
             self.is_above, self.is_waiting = False, True
 
@@ -250,11 +249,10 @@ class Editor:
         for binding in ("tab: complete", "set show-all-if-ambiguous on", "set bell-style none"):
             readline.parse_and_bind(binding)
         # Ctrl-C is a key that ends the line with a character of its own. (The last keymap is in force.)
-        keymaps = [("vi-command", "A"), ("vi-insert", r"\eA"), ("emacs", r"\C-e")]
-        is_vi = self.library.is_whole and self.library.mode.value == 0
-        for keymap, to_end in [keymaps[0], keymaps[2], keymaps[1]] if is_vi else keymaps:
+        keymaps, is_vi = {"vi-command": "A", "emacs": r"\C-e", "vi-insert": r"\eA"}, self.library and self.library.mode.value == 0
+        for keymap in keymaps if is_vi else ("vi-command", "vi-insert", "emacs"):
             readline.parse_and_bind("set keymap " + keymap)
-            readline.parse_and_bind(r'"\C-c": "%s\C-v\C-c\C-m"' % to_end)
+            readline.parse_and_bind(r'"\C-c": "%s\C-v\C-c\C-m"' % keymaps[keymap])
 
     def complete(self, text: str, state: int) -> Optional[str]:
         """Returns the state-th completion. A tab among keys that come faster than one types is a tab of a text."""

@@ -1,11 +1,11 @@
 """What is legal in a script and words, and may not be meant. By the tokens and the strings that the program tells: no script is read here."""
 import re
-from itertools import takewhile
+import unicodedata
+from itertools import dropwhile, takewhile
 from typing import Dict, Iterable, List, Sequence, Set, Tuple
 
 from .bench import Bench
-from .layout import in_words, named, short
-from .names import Names
+from .layout import counted, in_words, named, short
 from .places import LARGEST, Places, line_and_column
 from .rows import Outcome, Token
 
@@ -17,6 +17,8 @@ PUTTING = ("<-", "<+", "insert", "attach", "=", "+=", "=>")
 EMPTY = {"among": "[substring] is meant, perhaps", "<-": "it has no character to replace", "delete": "it has no character to delete"}
 # They signal t, whatever the command after them does; before those these make something else of it.
 SURE, NOT_SURE = ("do", "try", "repeat"), ("not", "fail", "for", "and")
+# A routine after one of these may fail.
+GOVERNING = (*SURE, *NOT_SURE, "test", "or", "goto", "gopast", "non", "loop", "atleast")
 # They take the slice.
 TAKING = ("delete", "<-", "->")
 
@@ -28,17 +30,50 @@ def lints(bench: Bench, has_all: bool = False) -> List[str]:
         return ["%s has more than {:,} bytes, and is not looked at".format(LARGEST) % named(bench.script)] if has_all else []
     places, outcomes = bench.places(), bench.outcomes() if has_all or bench.size <= MANY else []
     tokens = [token for token in places.tokens if token.kind != "comment"]
-    beyond = "%s has a letter beyond ASCII: other compilers ask for a stringdef"
-    found = [
-        (left.start, "the slice is empty here: " + EMPTY[after.text]) for left, right, after in zip(tokens, tokens[1:], tokens[2:])
-        if left.text == "[" and right.text == "]" and after.text in EMPTY
-    ]
-    found += [*sure_alternatives(tokens), *unset_slices(Names(places.tokens)), *plain_braces(tokens)]
+    found = [*misused(tokens), *sure_alternatives(tokens), *unset_slices(places), *bare_routines(places, tokens), *plain_braces(tokens)]
     found += strange_strings(places, outcomes, tokens) if has_all or bench.size >= FEW else []
-    found += [(token.start, beyond % short(token.text)) for token in tokens if has_all and token.kind == "literal" and not token.text.isascii()]
+    beyond = [token for token in tokens if has_all and token.kind == "literal" and not token.text.isascii()]
+    others = " (and {})".format(counted(len(beyond) - 1, "more literal")) if len(beyond) > 1 else ""
+    what = "%s has a letter beyond ASCII%s: other compilers ask for a stringdef"
+    found += [(token.start, what % (short(token.text), others)) for token in beyond[:1]]
     shown = ["%s:%d:%d: %s" % (named(bench.script), *line_and_column(places.text, start), what) for start, what in sorted(found)]
     more = len(shown) - MOST if not has_all else 0
-    return shown[: len(shown) - max(0, more)] + ['.. and {:,} more: "lint" shows all'.format(more)] * (more > 0) + capitals(places, outcomes)
+    shown = shown[: len(shown) - max(0, more)] + ['.. and {:,} more: "lint" shows all'.format(more)] * (more > 0)
+    return shown + strange_words(places, outcomes, tokens)
+
+
+def misused(tokens: Sequence[Token]) -> Iterable[Tuple[int, str]]:
+    """An empty slice before what takes it, `$x = cursor`, a group of only a literal beside one with `<-`, and an integer that may stay 0."""
+    texts, kinds = [token.text for token in tokens] + [""] * 7, [token.kind for token in tokens] + [""] * 7
+    values = {(texts[i + 1], texts[i + 2]) for i, text in enumerate(texts) if text == "$"}
+    for i, token in enumerate(tokens):
+        after = texts[i + 2 + (kinds[i + 2] == "name")]
+        if texts[i : i + 2] == ["[", "]"] and after in EMPTY:
+            yield token.start, "the slice is empty here: " + EMPTY[after]
+        elif token.text == "$" and texts[i + 2 : i + 4] == ["=", "cursor"] and texts[i + 4] not in "+-*/":
+            yield token.start, "${0} = cursor sets {0} and never fails: == or <= is meant, perhaps".format(short(texts[i + 1]))
+        elif kinds[i] == kinds[i + 2] == "literal" and texts[i + 1 : i + 4 : 2] == ["(", ")"] and "<-" in (texts[i - 3], texts[i + 6]):
+            yield tokens[i + 2].start, "({0}) only tests whether {0} is there: (<- {0}) is meant, perhaps".format(short(texts[i + 2]))
+        elif token.text == "setmark" and (texts[i + 1], "=") not in values and any((texts[i + 1], sign) in values for sign in ("<", "<=", ">", ">=")):
+            yield token.start, "{0} is 0 in the run of a word that does not come here: ${0} = limit before it is meant, perhaps".format(texts[i + 1])
+
+
+def bare_routines(places: Places, tokens: Sequence[Token]) -> Iterable[Tuple[int, str]]:
+    """A routine that changes the text and may fail, without `do` and before something else in an external: if it fails, nothing after it runs."""
+    parts = {name: places.part(name)[3:] for name in places.of_kind("routine")}
+    declared = takewhile(lambda token: token.text != ")", dropwhile(lambda token: token.text != "externals", tokens))
+    texts = {name: [token.text for token in part] for name, part in parts.items()}
+    doubtful = [name for name, part in texts.items() if not set(part).isdisjoint(TAKING[:2]) and set(part[:2]).isdisjoint(SURE)]
+    for name, part in [(token.text, parts[token.text]) for token in declared if token.text in parts]:
+        plain, before = [True], "as"  # type: List[bool], str
+        for token, after in zip(part, part[1:]):
+            if token.text == "(":
+                plain.append(plain[-1] and before in ("as", "backwards"))
+            elif token.text == ")":
+                plain.pop()
+            elif plain[-1] and token.text in doubtful and before not in GOVERNING and not before.isdigit() and after.text not in ("or", "and", ")"):
+                yield token.start, "if {0} fails, nothing after it in {1} runs: do {0} is meant, perhaps".format(token.text, name)
+            before = token.text
 
 
 def sure_alternatives(tokens: Sequence[Token]) -> Iterable[Tuple[int, str]]:
@@ -57,9 +92,9 @@ def plain_braces(tokens: Sequence[Token]) -> Iterable[Tuple[int, str]]:
         yield token.start, "%s has { and } as letters: no stringescapes {} is above it" % short(token.text)
 
 
-def unset_slices(names: Names) -> Iterable[Tuple[int, str]]:
+def unset_slices(places: Places) -> Iterable[Tuple[int, str]]:
     """The first command of a routine that takes the slice, if there is no [ or no ] in the routine, in what it calls, and in what calls it."""
-    parts = {item.name.text: names.part(item)[1:] for item in names.order if item.is_routine}
+    parts = {name: places.part(name)[2:] for name in places.of_kind("routine")}
     calls = {name: {token.text for token in part}.intersection(parts) for name, part in parts.items()}
     callers: Dict[str, Set[str]] = {name: set() for name in parts}
     for name, others in calls.items():
@@ -107,9 +142,15 @@ def strange_strings(places: Places, outcomes: Sequence[Outcome], tokens: Sequenc
             yield int(row.start), "'%s' has %s, which no word has and no command puts in" % (short(string), short(strange))
 
 
-def capitals(places: Places, outcomes: Sequence[Outcome]) -> List[str]:
-    words, strings = [row.word for row in outcomes if row.word != row.word.lower()], [string for _, _, string in places.entries]
-    if not words or not strings or any(string != string.lower() for string in strings):
-        return []
-    many = "{:,} of {:,} words {}".format(len(words), len(outcomes), "has" if len(words) == 1 else "have")
-    return ["%s capitals, as '%s', and no string of an among has one" % (many, short(words[0]))]
+def strange_words(places: Places, outcomes: Sequence[Outcome], tokens: Sequence[Token]) -> List[str]:
+    """Words with capitals or signs that no string has, these if they are many, and words with the empty stem."""
+    strings = [string for _, _, string in places.entries]
+    signs = set("".join(token.text for token in tokens if token.kind == "literal"))
+    large = [row.word for row in outcomes if row.word != row.word.lower()] if strings and all(string == string.lower() for string in strings) else []
+    signed = [row.word for row in outcomes if not row.word.isalpha() and any(unicodedata.category(c)[0] in "PS" for c in set(row.word) - signs)]
+    empty = [row.word for row in outcomes if (row.kind, row.stem) == ("stem", "")]
+    many = "{:,} of {:,} words {} {}, as '{}'{}"
+    return [many.format(len(found), len(outcomes), "has" if len(found) == 1 else "have", what, short(found[0]), then) for found, what, then in (
+        (large, "capitals", ", and no string of an among has one"),
+        (signed if 2 * len(signed) > len(outcomes) else [], "a sign that is no letter", ", and no literal has it"), (empty, "the empty stem", ""),
+    ) if found]

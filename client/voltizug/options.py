@@ -6,6 +6,7 @@ from typing import NamedTuple, Optional, Sequence
 
 HAS = "It has --watch, --rows, --text, --color WHEN, --no-pager, --external NAME and --from TEXT"
 FLAGS, VALUES = ("--watch", "--no-pager", "--rows", "--text"), ("--program", "--color", "--external", "--from")
+THIRD = "Stems are for mark FILE and families for families FILE, at its prompt"
 COMMANDS_COME = "Its standard input has the commands"
 # How the reader calls the launcher.
 CALLED = os.environ.get("SNOWBENCH_CALLED") or "./snowbench"
@@ -48,7 +49,7 @@ def options_of(given: Sequence[str]) -> Options:
         (not re.fullmatch(r"[A-Za-z][A-Za-z0-9_]*", external), "--external takes the name of an external, and %s is not a name" % external),
         (color not in ("auto", "always", "never"), "--color takes auto, always or never, and not %s" % color),
         (not files, "work needs a script"),
-        (len(files) > 2, "work takes a script and a list of words, and no third file: %s" % "".join(files[2:3])),
+        (len(files) > 2, "work takes a script and a list of words, and no third file: %s. %s" % ("".join(files[2:3]), THIRD)),
         ("-" in files and not os.path.exists("-"), "work reads a script and words from files, and there is no file -. " + COMMANDS_COME),
     ):
         if is_wrong:

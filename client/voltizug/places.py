@@ -1,4 +1,5 @@
 """Where things are in the text in force, by the rows of `places` and `tokens`, and where that is in SCRIPT. No script is read here."""
+from bisect import bisect_left
 from typing import Any, Dict, List, Optional, Sequence, Tuple
 
 from .rows import Token
@@ -14,7 +15,7 @@ class Places:
     """The rows of a text in force; `file_text` is what SCRIPT had when it was read. Without rows nothing has a place."""
 
     def __init__(self, script: str, text: bytes, file_text: Optional[bytes], rows: Sequence[Any], tokens: Sequence[Token]):
-        self.script, self.text, self.file_text, self.tokens = script, text, file_text, tokens
+        self.script, self.text, self.file_text, self.tokens, self.starts = script, text, file_text, tokens, [token.start for token in tokens]
         # What is said of a place if SCRIPT has changed since it was read.
         self.note = ""
         self.definitions: Dict[str, Any] = {row.name: row for row in rows if row.kind in ("routine", "grouping")}
@@ -65,11 +66,15 @@ class Places:
             end = comment.end
         return readable(before * (not before.strip()) + self.text[start:end]).split("\n")
 
+    def part(self, name: str) -> List[Token]:
+        """Returns the tokens of a definition, without comments."""
+        home = self.definitions.get(name)
+        tokens = self.tokens[bisect_left(self.starts, int(home.start)) : bisect_left(self.starts, int(home.end))] if home else []
+        return [token for token in tokens if token.kind != "comment"]
+
     def spots(self, name: str, words: Sequence[str]) -> List[str]:
         """Returns where a definition has these words, at most four of them."""
-        home = self.definitions.get(name)
-        found = [token for token in self.tokens if home and token.text in words and int(home.start) <= token.start < int(home.end)]
-        return ["the %s of %s" % (token.text, self.at(name, token.start)) for token in found[:4]]
+        return ["the %s of %s" % (token.text, self.at(name, token.start)) for token in self.part(name) if token.text in words][:4]
 
 
 def readable(text: bytes) -> str:

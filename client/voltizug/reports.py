@@ -4,7 +4,6 @@ from itertools import groupby
 from typing import Any, Callable, Dict, List, Sequence, Tuple
 
 from . import rows
-from .conditions import Found, Routine, Test, text_of
 from .layout import COLUMN, columns, counted, listed, named, outcome, padded, percent, short, step_of
 from .places import Places
 
@@ -17,8 +16,6 @@ FIGURES = {
 }
 # A line in two or three parts: what it is about, what is said, and a place.
 Line = Tuple[str, str, str]
-# Tests with their routines, by the names of these and by their numbers.
-Tests = Dict[Tuple[str, str], Tuple[Routine, Test]]
 
 
 def stems(lines: Sequence[str]) -> List[str]:
@@ -94,18 +91,17 @@ def in_columns(found: Sequence[Line]) -> List[str]:
     return placed([("%-*s  %s" % (column, name, what), place) for name, what, place in found])
 
 
-def tests(found: Found, places: Places) -> List[str]:
+def tests(events: Sequence[Any], places: Places) -> List[str]:
     """The tests without a name of a run. Of those that come before anything else happens, equal ones share a line."""
     asked: List[Tuple[Any, int]] = []
-    for is_test, part in groupby(found.events, key=lambda row: row.kind == "test"):
-        part = (row for row in part if is_test and not found.tests[row.name, row.n][1].is_turned)
-        asked += Counter((row.name, row.n, row.signal) for row in part).items()
+    for is_test, part in groupby(events, key=lambda row: row.kind == "test"):
+        asked += Counter(row for row in part if is_test and not row.is_negative).items()
     lines: List[Line] = []
-    for (name, n, signal), count in asked[:MOST_TESTS]:
-        test, times = found.tests[name, n][1], " {:,} times".format(count) if count > 1 else ""
-        lines.append((name, "%s is %s%s" % (test.text, "true" if signal == "t" else "false", times), places.at(name, test.tokens[0].start)))
+    for row, count in asked[:MOST_TESTS]:
+        times = " {:,} times".format(count) if count > 1 else ""
+        lines.append((row.name, "%s is %s%s" % (row.text, "true" if row.signal == "t" else "false", times), places.at(row.name, row.start)))
     lines += [("..", "and {:,} more".format(len(asked) - MOST_TESTS), "")] if len(asked) > MOST_TESTS else []
-    lines += [("..", "the tests after these are not known", "")] if lines and any(row.kind == "unknown" for row in found.events) else []
+    lines += [("..", "the tests after these are not known", "")] if lines and any(row.kind == "unknown" for row in events) else []
     return in_columns(lines) or ["its run asked no test"]
 
 
@@ -122,14 +118,13 @@ class Call:
         self.acts = self.acts or row.kind in ("taken", "put")
 
 
-def why(word: str, events: Sequence[Any], figures: Sequence[Any], places: Places, tests_of: Tests, has_more: bool = True) -> List[str]:
+def why(word: str, events: Sequence[Any], figures: Sequence[Any], places: Places, has_more: bool = True) -> List[str]:
     """What took a string, what routines answered when they were asked, each change of the text, and the test that made a routine false which
-    had changed something. The events may have tests, which are told by the names of their routines and their numbers. `has_more` says that
-    somebody can ask for `events` and `tests`."""
+    had changed something, if the events have tests. `has_more` says that somebody can ask for `events` and `tests`."""
     text, shown, calls = word, [], []  # type: str, List[Line], List[Call]
     for row in events:
         if row.kind == "return":
-            shown += returned(calls, row.signal == "t", places, tests_of)
+            shown += returned(calls, row.signal == "t", places)
         elif row.kind == "call":
             calls.append(Call(row.name))
         elif row.kind == "taken":
@@ -158,14 +153,12 @@ def why(word: str, events: Sequence[Any], figures: Sequence[Any], places: Places
     return [nothing] * (len(shown) == 1) + in_columns(lines)
 
 
-def returned(calls: List[Call], is_true: bool, places: Places, tests_of: Tests) -> List[Line]:
+def returned(calls: List[Call], is_true: bool, places: Places) -> List[Line]:
     """Returns the lines on a routine that ends."""
     call, shown = calls.pop(), []  # type: Call, List[Line]
     is_failed = call.acts and not is_true
-    if calls and is_failed and call.test and call.test.signal == "f":
-        routine, test = tests_of[call.name, call.test.n]
-        if routine.is_plain:
-            shown.append((call.name, text_of(test.row) + " is false", places.at(call.name, test.row[0].start)))
+    if calls and is_failed and call.test and call.test.signal == "f" and call.test.is_plain:
+        shown.append((call.name, call.test.row + " is false", places.at(call.name, call.test.row_start)))
     if calls and (is_failed or len(calls) > 1 and call.asks_only):
         shown.append((calls[-1].name, "%s is %s" % (call.name, "true" if is_true else "false"), ""))
     return shown

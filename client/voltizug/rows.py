@@ -2,7 +2,7 @@
 import csv
 from collections import namedtuple
 from itertools import compress, groupby
-from typing import Any, Dict, Iterable, List, NamedTuple, Tuple
+from typing import Any, Dict, Iterable, List, NamedTuple, Set, Tuple
 
 PLACE = " start end line column"
 # By report the kinds of its rows with their fields; one that begins with a star takes all that is left.
@@ -13,7 +13,7 @@ TABLE: Dict[str, Dict[str, str]] = {
     },
     "compare": {"differs": "*part", "words": "count differing"},
     "events": {
-        "call": "depth name", "search": "depth name k", "taken": "depth name k string", "none": "depth name k", "test": "depth name n signal",
+        "call": "depth name", "search": "depth name k", "taken": "depth name k string", "none": "depth name k",
         "put": "depth name start end text after", "return": "depth name signal", "more": "count", "stem": "stem", "refused": "name",
     },
     "unused": {"routine": "name", "among": "name k", "grouping": "name", "entry": "name k string"},
@@ -64,14 +64,15 @@ def between(before: List[str], after: List[str]) -> List[Any]:
         before, after = list(compress(before, is_read)), list(compress(after, is_read))
     make, pairs = KINDS["changes"], list(zip(rows_of(before), rows_of(after)))
     changed = [make["changed"]("changed", *old, *new[1:]) for old, new in pairs if old != new]
-    touched = {stem for row in changed for stem in (row.old, row.new)}
+    to, of = {}, {}  # type: Dict[str, Set[str]], Dict[str, Set[str]]
     # (a word whose run is refused is in no class)
-    ways = {(old[2], new[2]) for old, new in pairs if old[1] == new[1] == "stem" and not touched.isdisjoint((old[2], new[2]))}
-    both = (groupby(sorted(each), key=lambda way: way[0]) for each in (ways, {way[::-1] for way in ways}))
-    to, of = ({stem: [other for _, other in part] for stem, part in groups} for groups in both)
-    split = [make["split"]("split", old, tuple(news)) for old, news in to.items() if len(news) > 1]
-    merged = [make["merged"]("merged", new, tuple(olds)) for new, olds in of.items() if len(olds) > 1]
-    renamed = [make["renamed"]("renamed", old, new) for old, (new, *more) in to.items() if old != new and not more and of[new] == [old]]
+    for old, new in ((old[2], new[2]) for old, new in pairs if old[1] == new[1] == "stem"):
+        to.setdefault(old, set()).add(new)
+        of.setdefault(new, set()).add(old)
+    split = [make["split"]("split", old, tuple(sorted(news))) for old, news in sorted(to.items()) if len(news) > 1]
+    merged = [make["merged"]("merged", new, tuple(sorted(olds))) for new, olds in sorted(of.items()) if len(olds) > 1]
+    ways = [(old, min(news)) for old, news in sorted(to.items()) if len(news) == 1]
+    renamed = [make["renamed"]("renamed", old, new) for old, new in ways if old != new and of[new] == {old}]
     return changed + split + merged + renamed
 
 
@@ -84,6 +85,11 @@ def names_of(row: Any) -> List[str]:
 def by_kind(found: Iterable[Any]) -> Dict[str, List[Any]]:
     """Returns the rows of a report by their kinds, which come one after another."""
     return {kind: list(part) for kind, part in groupby(found, key=lambda row: row.kind)}
+
+
+def figures(lines: Iterable[str]) -> Dict[str, int]:
+    """Returns the figures of `stats` by their names."""
+    return {row.kind: int(row.count) for row in read("stats", lines)}
 
 
 def outcomes(lines: Iterable[str]) -> List[Outcome]:

@@ -32,11 +32,14 @@ class Screen:
         # (a command that is to be copied is not broken: the terminal does that)
         return [part for line in lines for part in (layout.broken(layout.named(line), width) if " > NEW" not in line else [layout.named(line)])]
 
-    def write(self, lines: Sequence[str], is_report: bool = False, is_text: bool = False) -> None:
-        """Writes lines; those of a text are an author's, and are not broken. A report may go to the pager; if Ctrl-C ends it, that is said."""
+    def write(self, lines: Sequence[str], is_report: bool = False, is_text: bool = False, last: int = 0) -> None:
+        """Writes lines; those of a text are an author's, and are not broken. A report may go to the pager, and after it come so many of its last
+        lines, which are figures; if Ctrl-C ends it, that is said."""
         shown = list(map(layout.named, lines)) if is_text else self.broken(lines)
-        if is_report and self.has_pager and not self.editor.is_above and len(shown) >= self.size().lines and self.page(shown):
-            return
+        figures = self.broken(lines[len(lines) - last :])
+        is_paged = is_report and self.has_pager and not self.editor.is_above and len(shown) >= self.size().lines
+        if is_paged and self.page(shown[: len(shown) - len(figures)]):
+            shown, is_report = figures, False
         if self.has_colour and not is_text:
             shown = list(map(layout.coloured, shown))
         try:

@@ -7,31 +7,34 @@ import traceback
 from operator import ne
 from typing import Any, List, Sequence, Tuple
 
-from . import commands, conditions, kept, layout, lints, loops, options, reports, rows, screen, warn, words
+from . import commands, kept, layout, lints, loops, options, reports, rows, screen, warn, words
 from .bench import Bench, typed_edits
 from .commands import BLOCKS, COMMANDS, LANGUAGE, OPEN_BLOCKS, REPORTING, WITH_TEXT
+from .conditions import with_tests
 from .desk import Desk
 from .keys import Broken, Dropped, Hangup
-from .layout import in_words, short
+from .layout import counted, in_words, short
 from .places import BOM, readable
 from .program import DONE, LONGEST, encoded
 
 DEFINITION = re.compile(r"\s*define\s+([A-Za-z][A-Za-z0-9_]*)\s+(as(?=\s|$))?")
 TO_FILE = re.compile(r"(.*\S)\s+>\s*(\S+)\s*\Z")
 USAGE = "usage: %s work [--watch] [--rows | --text] [--color WHEN] [--no-pager] [--external NAME] [--from TEXT] SCRIPT [WORDS]" % options.CALLED
-# What the program is asked in the place of a line; what is not broken, since an author wrote it.
-ASKED, TEXTS = {"largest": "largest 10"}, ("script", "show", "echo", "events")
+# Replies that are not broken, since an author wrote them.
+TEXTS = ("script", "show", "echo", "events")
+# By report how many of its last lines are figures.
+FIGURES = {"changes": 1, "families": 2}
 
 
 class Terminal(Desk):
-    """The commands: do_NAME has what follows the command, if it is more than a request."""
+    """The commands: do_NAME has what follows the command, if it is more than a request, reply_NAME also the lines of the reply."""
 
     # A command that was doubted, and is done if it is typed again.
     doubted = ""
 
     def answer(self, line: str) -> bool:
         """Answers a line; returns whether `work` goes on."""
-        line = line if line.partition(" ")[0] in WITH_TEXT else line.rstrip() if line.strip() else ""
+        line = line if line.partition(" ")[0] in WITH_TEXT else line.rstrip()
         line = {"exit": "quit", "?": "help"}.get(line, line)
         command, _, argument = line.partition(" ")
         if command in COMMANDS and (command == "uses" or command not in WITH_TEXT):
@@ -40,7 +43,6 @@ class Terminal(Desk):
             line = command + " " * bool(argument) + argument
         if command != self.doubted.partition(" ")[0]:
             self.doubted = ""
-        block = self.block_of(line)
         if line == "quit":
             return not self.may_end()
         if line.startswith("#"):
@@ -52,10 +54,15 @@ class Terminal(Desk):
             self.screen.say("A file has a fault, so no command runs yet. Correct it there%s. quit or Ctrl-D ends." % then)
         elif len(encoded(line)) > LONGEST:
             self.screen.say(words.SENTENCES[72])
+        elif line == "families" and self.bench.families and not self.editor.pending:
+            self.ask("families " + self.bench.families)
         elif line in ("", "reload", "undo", "redo") or command in ("limit", "replace") and argument:
             self.edit([line or "reload"])
-        elif block:
-            self.read_block(block)
+        elif command in BLOCKS or line in OPEN_BLOCKS:
+            self.read_block([line])
+        elif definition := DEFINITION.match(line):
+            name, is_routine = definition.groups()
+            self.read_block(["%s %s" % ("routine" if is_routine else "grouping", name), line])
         elif command in ("save", "approve"):
             self.write(command, argument.strip())
         elif not hasattr(self, "do_" + command):
@@ -67,31 +74,29 @@ class Terminal(Desk):
         return True
 
     def ask(self, line: str) -> None:
-        """Asks for a report, or for what is done without one."""
         found = TO_FILE.match(line) if line.partition(" ")[0] in REPORTING else None
-        line, path = (found[1], found[2]) if found else (line, "")
+        line, path = found.groups() if found else (line, "")
         command, _, argument = line.partition(" ")
-        is_piped = " | " in argument or argument.endswith(" >") or argument == ">" and command in COMMANDS and not COMMANDS[command].takes
+        is_alone = argument in (">", ">>", "|") and command in COMMANDS and not COMMANDS[command].takes
+        is_piped = " | " in " " + argument or " >> " in " " + argument or argument.endswith(" >") or is_alone
         if is_piped and command in REPORTING and command != "uses":
             self.screen.say("A report goes into a file by > FILE, as in: classes > my.classes. There are no pipes here.")
             return
         # (a string may be typed as it is shown)
         line = re.sub(r"\A(uses \S+ [0-9]+) '(.*)'\Z", r"\1 \2", line)
-        reply = self.bench.ask({"changes": "changes", "tests": "events " + argument}.get(command, ASKED.get(line, line)))
+        asked = {"changes": "changes", "tests": "events " + argument}.get(command, {"largest": "largest 10", "lint": "echo"}.get(line, line))
+        reply = self.bench.ask(asked)
         if not self.is_done(reply, line):
             return
         self.nonsense = 0
-        shown = self.laid_out(command, argument, reply.lines)
+        if hasattr(self, "reply_" + command):
+            shown = getattr(self, "reply_" + command)(argument, reply.lines)
+        else:
+            shown = [] if reply.lines == ["ok"] else reports.laid_out(command, reply.lines, self.bench.places)
         if path:
             self.screen.say(screen.to_file(os.path.expanduser(path), shown))
         else:
-            self.screen.write(shown, is_report=command in REPORTING, is_text=command in TEXTS)
-
-    def laid_out(self, command: str, argument: str, lines: List[str]) -> List[str]:
-        own = getattr(self, "reply_" + command, None)
-        if own:
-            return own(argument, lines)
-        return [] if lines == ["ok"] else reports.laid_out(command, lines, self.bench.places)
+            self.screen.write(shown, is_report=command in REPORTING, is_text=command in TEXTS, last=FIGURES.get(command, 0))
 
     # Replies that are shown with more than their rows
 
@@ -106,12 +111,17 @@ class Terminal(Desk):
         return [short(word) + " is removed."]
 
     def reply_mark(self, path: str, _: Sequence[str]) -> List[str]:
-        return [layout.figures(self.bench.changes) if path else "Changes are told since now."]
+        figures, changed = layout.figures(self.bench.changes), sum(row.kind == "changed" for row in self.bench.changes)
+        doubt = "Most stems differ. %s needs the stems alone, one on a line, in the order of the words, as approve writes them." % short(path)
+        return [doubt] * (2 * changed > self.bench.size) + [figures] if path else ["The mark is set: changes are counted from here."]
 
     def reply_changes(self, text: str, lines: Sequence[str]) -> List[str]:
         found = [row for row in rows.read("changes", lines) if any(text in name for name in rows.names_of(row))]
         all_of = "no change has %s" % short(text) if text and not found else layout.figures(found)
-        return layout.changes(found, self.outcomes(found)) + [all_of]
+        return layout.changes(found, self.added(found)) + [all_of]
+
+    def reply_lint(self, *_: object) -> List[str]:
+        return [*warn.warnings_on(self.bench.script, self.bench.words), *lints.lints(self.bench, has_all=True)] or ["nothing was found"]
 
     def reply_script(self, *_: object) -> List[str]:
         return readable(self.bench.program.now.text).rstrip("\n").split("\n")
@@ -131,27 +141,30 @@ class Terminal(Desk):
 
     def reply_families(self, path: str, lines: Sequence[str]) -> List[str]:
         mark = ["%s begins with a byte order mark, which is part of its first word." % short(path)] * (kept.read_file(path) or b"").startswith(BOM)
-        return mark + reports.families(lines)
+        text, there = (kept.read_file(path) or b"").decode("utf-8", "surrogateescape"), self.bench.by_word()
+        strange = [word for word in re.split("[ \t\r\n,]+", text) if word and word not in there][:1]
+        first = ["The first word that is not in the vocabulary is %s." % words.in_quotes(word) for word in strange]
+        return mark + warn.on_lines(layout.named(path), path, text, warn.DECOMPOSED) + first + reports.families(lines)
 
     def reply_why(self, word: str, lines: Sequence[str]) -> List[str]:
-        figures, found = self.run_of(word, lines)
-        last, turn = found.events[-1], loops.turning(word, rows.read("events", lines), self.bench)
+        figures, events, _ = self.run_of(word, lines)
+        last, turn = events[-1], loops.turning(word, rows.read("events", lines), self.bench)
         meaning = "%s: %s" % (last.name, words.REFUSALS[last.name]) if last.kind == "refused" and last.name in words.REFUSALS else ""
-        shown = reports.why(word, found.events, figures, self.bench.places(), found.tests)
+        shown = reports.why(word, events, figures, self.bench.places())
         return shown + ["  " + line for line in (turn, meaning, words.misspelt(word, self.bench)) if line]
 
     def reply_tests(self, word: str, lines: Sequence[str]) -> List[str]:
-        _, found = self.run_of(word, lines)
+        _, events, is_known = self.run_of(word, lines)
         unknown = ["The tests of this run cannot be shown: it is too long, or near a limit."]
-        return reports.tests(found, self.bench.places()) if found.is_known else unknown
+        return reports.tests(events, self.bench.places()) if is_known else unknown
 
-    def run_of(self, word: str, lines: Sequence[str]) -> Tuple[List[Any], conditions.Found]:
-        """Returns the figures of the run of a word, and its events, from their lines, with its tests."""
+    def run_of(self, word: str, lines: Sequence[str]) -> Tuple[List[Any], List[Any], bool]:
+        """Returns the figures of the run of a word; its events, from their lines, with its tests; and whether these are known."""
         figures = self.bench.read("integers " + word)
-        found = conditions.with_tests(self.bench.program, self.bench.places(), word, rows.read("events", lines), figures)
+        events, is_known = with_tests(self.bench.program, self.bench.places(), word, rows.read("events", lines), figures)
         if self.editor.is_interrupted:
             raise Broken
-        return figures, found
+        return figures, events, is_known
 
     # Commands that are more than a request
 
@@ -162,71 +175,61 @@ class Terminal(Desk):
     def do_limit(self, _: str) -> None:
         self.screen.say("Each run may use {:,} steps. limit N sets another number.".format(int(self.bench.program.now.limit)))
 
-    def do_lint(self, _: str) -> None:
-        found = [*warn.warnings_on(self.bench.script, self.bench.words), *lints.lints(self.bench, has_all=True)]
-        self.screen.write(found or ["nothing was found"], is_report=True)
-
     def do_add(self, text: str) -> None:
-        parts = text.split()
+        parts, reply = text.split(), "one"
         if len(parts) > 1 and not self.editor.pending:
             prompt = 'Add %d words (%s)? y adds them, "one" adds one word with blanks in it, Enter adds nothing: '
             reply = (self.editor.read(layout.named(prompt % (len(parts), in_words(parts, "and", 6)))) or "").strip().lower()
-            for part in parts if reply in ("y", "yes") else []:
-                self.ask("add " + part)
-            if reply != "one":
-                self.screen.say("" if reply in ("", "y", "yes") else "Nothing was added: %s is no answer to this." % words.in_quotes(reply, True))
-                return
-        self.ask("add " + text)
+        for word in {"one": [text], "y": parts, "yes": parts}.get(reply, []):
+            self.ask("add " + word)
+        if reply not in ("", "one", "y", "yes"):
+            self.screen.say("Nothing was added: %s is no answer to this." % words.in_quotes(reply, True))
 
     def write(self, command: str, path: str) -> None:
         """Has the script or the stems written to a file. What is only doubtful is done if it is typed again."""
-        line = "%s %s" % (command, path)
+        line, name = "%s %s" % (command, path), short(path)
         why = self.bench.may_write(command, path) if path else ""
         if why and not (why.endswith("?") and self.doubted == line):
             self.doubted = line
             self.screen.say(words.may_not(why, command, path, "" if self.options.is_watching else " and press Enter"))
             return
-        stems, before, reply = (kept.read_file(path) or b"").splitlines(), self.comments(path), self.bench.write(command, path)
+        stems, comments, reply = kept.read_lines(path), self.comments(path), self.bench.write(command, path)
         if command == "save" and reply.state != DONE and kept.read_file(path) == self.bench.program.now.text:
-            self.screen.say("%s has the script now." % short(path))
-        elif self.is_done(reply, line):
-            if command == "approve":
-                now = (kept.read_file(path) or b"").splitlines()
-                others = " %s other than before." % layout.counted(sum(map(ne, stems, now)), "stem is", "stems are")
-                self.screen.say("The stems are in %s." % short(path) + others * (0 < len(stems) == len(now)), self.unkept_words())
-                return
-            lost = before - self.comments(path)
-            self.screen.say("saved in %s" % short(path))
+            self.screen.say("%s has the script now." % name)
+        elif self.is_done(reply, line) and command == "approve":
+            now = kept.read_lines(path)
+            others = " %s other than before." % counted(sum(map(ne, stems, now)), "stem is", "stems are")
+            self.screen.say("The stems are in %s." % name + others * (0 < len(stems) == len(now)), self.unkept_words())
+        elif reply.is_done:
+            lost = comments - self.comments(path)
             # (of the parts that were typed, or of a change of SCRIPT that undo took back)
-            self.screen.say("%s no longer in %s." % (layout.counted(lost, "comment is", "comments are"), short(path)) if lost > 0 else "")
+            self.screen.say("saved in %s" % name, "%s no longer in %s." % (counted(lost, "comment is", "comments are"), name) if lost > 0 else "")
 
     def comments(self, path: str) -> int:
-        """Returns how many comments a script has."""
         lines = self.bench.known("tokens " + path) if os.path.isfile(path) else None
         return sum(token.kind == "comment" for token in rows.tokens(lines or []))
 
     def do_append(self, path: str) -> None:
         path = path.strip() or self.bench.words or ""
-        before = (kept.read_file(path) or b"").count(b"\n")
+        before = len(kept.read_lines(path))
         if self.is_done(self.bench.ask("append " + path if path != self.bench.words else "append"), "append " + path):
-            count = (kept.read_file(path) or b"").count(b"\n") - before
-            self.screen.say("%s now at the end of %s." % (layout.counted(count, "word is", "words are"), short(path)))
+            self.screen.say("%s now at the end of %s." % (counted(len(kept.read_lines(path)) - before, "word is", "words are"), short(path)))
 
     def do_words(self, _: str) -> None:
-        added, there = self.bench.added, dict.fromkeys(row.word for row in self.bench.outcomes())
+        added, before = self.bench.added, self.bench.by_word()
         if self.is_done(self.bench.ask("words"), "words"):
             self.has_old_words = False
             self.warn(self.bench.words)
-            now = dict.fromkeys(row.word for row in self.bench.outcomes())
+            now = self.bench.by_word()
             gone = [word for word in added if word not in now]
             them, size = "it" if len(gone) == 1 else "them", "{:,} words".format(len(now))
-            for what, part in (("added", now.keys() - there.keys()), ("removed", there.keys() - now.keys() - set(added))):
-                found = [word for word in (*there, *now) if word in part]
+            removed = [word for word in before if word not in now and word not in gone]
+            for what, found in (("added", [word for word in now if word not in before]), ("removed", removed)):
                 size += "; {:,} {}: {}".format(len(found), what, in_words(found, "and", 5)) if found else ""
             self.screen.say(size, "Gone, since the file lacks %s: %s." % (them, in_words(gone, "and", 5)) if gone else "")
 
     def do_rescue(self, what: str) -> None:
-        left, there = self.bench.kept.left(), {row.word for row in self.bench.outcomes()}
+        left, before = self.bench.kept.left(), self.bench.by_word()
         if what == "drop":
             for old in left:
                 self.bench.kept.forget(old.room)
@@ -234,20 +237,13 @@ class Terminal(Desk):
         elif not left:
             self.screen.say("No typed edits were left behind.")
         else:
-            for word in [word for word in left[-1].words if word not in there]:
+            last = left[-1]
+            for word in [word for word in last.words if word not in before]:
                 self.ask("add " + word)
-            is_added = there.union(self.bench.added).issuperset(left[-1].words)
-            if is_added and (not left[-1].path or self.edit(["replace " + left[-1].path])):
-                self.bench.kept.forget(left[-1].room)
+            if {*before, *self.bench.added}.issuperset(last.words) and (not last.path or self.edit(["replace " + last.path])):
+                self.bench.kept.forget(last.room)
 
     # Blocks
-
-    def block_of(self, line: str) -> List[str]:
-        """Returns the lines with which a block begins; none if this line begins none."""
-        if line.partition(" ")[0] in BLOCKS or line in OPEN_BLOCKS:
-            return [line]
-        definition = DEFINITION.match(line)
-        return ["%s %s" % ("routine" if definition[2] else "grouping", definition[1]), line] if definition else []
 
     def read_block(self, block: List[str]) -> None:
         wrong = words.early(block[0], self.bench)
@@ -255,39 +251,39 @@ class Terminal(Desk):
             self.screen.say(wrong + " Nothing was done.")
             self.drop_pasted()
             return
-        begins = "Words that belong together, a family on each line. " if block[0] == "families" else ""
-        begins = 'This begins the block of "%s". ' % block[0] if len(block) > 1 else begins
-        self.screen.say(begins + "A line with a single point ends it, Ctrl-C drops it." if begins else "")
-        self.completion.is_in_block = True
-        try:
-            is_whole = self.read_lines(block)
-        except Dropped:
+        begins = "Words that belong together, a family on each line." if block[0] == "families" else ""
+        begins = 'This begins the block of "%s".' % block[0] if len(block) > 1 else begins
+        self.screen.say(begins + " A line with a single point ends it, Ctrl-C drops it." if begins else "")
+        end = self.read_lines(block)
+        self.bench.kept.note("block", [])
+        if end == "dropped":
             self.editor.remember(*block[1:])
             self.screen.say("The block is dropped%s." % ("; the up arrow brings its lines back" if len(block) > 1 else ""))
-            self.bench.kept.note("block", [])
-            return
-        finally:
-            self.completion.is_in_block = False
-        self.bench.kept.note("block", [])
-        if not is_whole:
+        elif end != ".":
             self.screen.say("Nothing was done: the block has no line with only a point at its end.")
         elif block[0] == "families":
-            reply = self.bench.settled(self.bench.program.ask([*block, "."]))
+            reply = self.bench.ask(*block, ".")
             if self.is_done(reply, "families"):
                 self.screen.write(reports.families(reply.lines), is_report=True)
         elif not self.edit([*block, "."]):
             self.editor.remember(*block[1:], ".")
 
-    def read_lines(self, block: List[str]) -> bool:
-        """Reads the lines of a block. Returns whether its point came."""
-        while True:
-            line = self.editor.read("| ")
-            if line is None or line.strip() == ".":
-                return line is not None
-            if self.is_command(line, block[0]):
-                self.screen.say("This line is a part of the block. A line with a single point ends the block, Ctrl-C drops it.")
-            block.append(line)
-            self.bench.kept.note("block", block)
+    def read_lines(self, block: List[str]) -> str:
+        """Reads the lines of a block. Returns its point, nothing if the input ends before it, or that Ctrl-C dropped the block."""
+        self.completion.is_in_block = True
+        try:
+            while True:
+                line = self.editor.read("| ")
+                if line is None or line.strip() == ".":
+                    return (line or "").strip()
+                if self.is_command(line, block[0]):
+                    self.screen.say("This line is a part of the block. A line with a single point ends the block, Ctrl-C drops it.")
+                block.append(line)
+                self.bench.kept.note("block", block)
+        except Dropped:
+            return "dropped"
+        finally:
+            self.completion.is_in_block = False
 
     def is_command(self, line: str, block: str) -> bool:
         """Whether a line of a block is meant as a command, by its first word. (A family may have any word.)"""
@@ -302,20 +298,19 @@ class Terminal(Desk):
         bench = self.bench
         if self.doubted == "quit" or bench.is_waiting:
             return True
-        doubts, aside = [], in_words(bench.put_aside() or [""], "and", 5)
+        doubts, aside = [self.unkept_words(", quit again drops {}")], in_words(bench.put_aside() or [""], "and", 5)
         if bench.is_unsaved(bench.program.now.text):
-            doubts.append("The edits that you typed are in no file: save FILE keeps them, quit again drops them.")
+            doubts.insert(0, "The edits that you typed are in no file: save FILE keeps them, quit again drops them.")
         elif aside:
-            doubts.append("A reload has put aside what you typed (%s), and no file has it: undo goes back to it, quit again drops it." % aside)
-        doubts += filter(None, [self.unkept_words(", quit again drops {}")])
-        self.doubted = "quit" if doubts else ""
+            doubts.insert(0, "A reload has put aside what you typed (%s), and no file has it: undo goes back to it, quit again drops it." % aside)
+        self.doubted = "quit" if any(doubts) else ""
         self.screen.say(*doubts)
-        return not doubts
+        return not any(doubts)
 
     def unkept_words(self, then: str = "") -> str:
         """Returns the sentence on words that were added and that no file has; nothing if there are none."""
         bench = self.bench
-        there = set((kept.read_file(bench.words) or b"").splitlines()) if bench.added else set()
+        there = set(kept.read_lines(bench.words)) if bench.added else set()
         added = [word for word in bench.added if encoded(word) not in there]
         what, it = ("word that you added is", "it") if len(added) == 1 else ("words that you added are", "them")
         to = "append puts %s into %s" % (it, short(bench.words)) if bench.words else "append FILE writes %s" % it
@@ -337,13 +332,12 @@ class Terminal(Desk):
         except Broken:
             self.editor.is_interrupted = False
             self.screen.say("It was broken off.")
-            return True
         except Exception:
             path = os.path.join(self.bench.kept.folder, "fault")
             with contextlib.suppress(OSError), open(path, "w", encoding="utf-8") as file:
                 traceback.print_exc(file=file)
             self.screen.say("This client has a fault: what it was doing is in %s. The script in force and your edits are as they were." % path)
-            return True
+        return True
 
     def run(self) -> int:
         for stream in (sys.stdin, sys.stdout):

@@ -8,14 +8,12 @@ from typing import Callable, Dict, Sequence
 
 from .bench import Bench, Stage
 from .commands import COMMANDS, NAMED, OPEN_BLOCKS, STRANGE
-from .kept import is_same, read_file
+from .kept import is_same, read_lines
 from .layout import counted, in_words, named, short
 from .near import folded, meant, near
 from .options import CALLED
 from .program import Reply
 
-# By the number of a refusal what a command needs that has nothing after it.
-NEEDS: Dict[int, str] = {41: "a word", 42: "a word", 45: "a name", 53: "a name"}
 # By the number of a refusal its sentence. {c} is the command, {a} what follows it, {path} its file.
 SENTENCES: Dict[int, str] = {
     40: "{a} is in the vocabulary already.",
@@ -35,15 +33,22 @@ SENTENCES: Dict[int, str] = {
     72: "A line may have 65,536 bytes at most. Nothing was done.",
     75: "{path} is not UTF-8. If it is Latin-1: {latin1}",
 }
-# Why `save`, `approve` or `append` does not write to a file. {other} is what to do.
+# Why `save`, `approve` or `append` does not write to a file. {other} is what to do, {new} the same with a new file.
 MAY_NOT: Dict[str, str] = {
-    "there": "{path} is there already, and {c} does not overwrite it. Nothing was written: {other}.",
-    "others": "{path} was changed since {c} wrote it. Nothing was written: {other}.",
+    "there": "{path} is there already, and {c} does not overwrite it. Nothing was written: {new}, or delete that one first.",
+    "others": "{path} was changed since {c} wrote it. Nothing was written: {new}.",
     "words": "{path} has the words, and {c} does not overwrite it. Nothing was written: {other}.",
     "script": "{path} has the script, and {c} does not overwrite it. Nothing was written: {other}.",
     "changed": "{path} has changed since it was read, and was not overwritten. Enter reads it again; {other} to keep both.",
     "refused?": "{path} has a text that was refused. Nothing was written: correct it there{then}, or save {path} again overwrites it.",
     "undone?": "{path} has a change that undo took back. Nothing was written: Enter reads it again, save {path} again overwrites it.",
+    "no words": "{path} is there already, and append puts words only into the file of words or a new file.",
+    "gone": "{path} is not there any more, and was not written: save to another file.",
+    "no folder": "{path} cannot be written: there is no folder {folder}.",
+    "folder": "{path} cannot be written: it is a folder. Name a file in it.",
+    "closed": "{path} cannot be written: you may not write there. {Other}.",
+    "full": "{path} cannot be written: {room}.",
+    "full, there": "{path} cannot be written: {room}. It has its former text.",
 }
 NOTES: Dict[str, str] = {
     "unchanged": "{script} has not changed since it was read.",
@@ -78,8 +83,8 @@ def sentence(reply: Reply, lines: Sequence[str], bench: Stage) -> str:
 def refused(code: int, line: str, bench: Stage) -> str:
     """Returns the sentence for a line, by the number of its refusal."""
     command, _, argument = line.partition(" ")
-    if code in NEEDS and not argument:
-        return "%s needs %s: %s." % (command, NEEDS[code], COMMANDS[command].usage)
+    if code in (41, 42, 45, 53) and not argument:
+        return "%s needs a %s: %s." % (command, COMMANDS[command].takes.partition(" ")[0].lower(), COMMANDS[command].usage)
     if code in SPECIAL:
         return SPECIAL[code](line, bench)
     path, (name, k, string) = file_of(line, bench), [*argument.split(" ", 2), "", ""][:3]
@@ -98,12 +103,14 @@ def in_quotes(word: str, is_sure: bool = False) -> str:
 
 def absent(line: str, bench: Stage) -> str:
     command, _, word = line.partition(" ")
-    words, form = [row.word for row in bench.outcomes()], folded(word)
+    words, form = bench.by_word(), folded(word)
     same = [other for other in words if folded(other).strip() == form.strip()]
     found = list(map(in_quotes, same[:4])) if same else near(word, words)
     question = " Did you mean %s?" % in_words(found, "or") if found else ""
     if same and folded(same[0]) == form and same[0].casefold() != word.casefold():
         question = " It is there in another form of Unicode (NFC and NFD are different words)."
+    if command == "class" and bench.known("stem " + word) is not None:
+        return "%s is a stem and no word: stem %s shows its words." % (in_quotes(word), short(word))
     why = "" if found or command in ("remove", "why") or word != word.strip() else ' "why %s" shows how it would be stemmed.' % short(word)
     return "%s is not in the vocabulary.%s%s" % (in_quotes(word), question, why)
 
@@ -112,21 +119,19 @@ def misspelt(word: str, bench: Bench) -> str:
     """Returns the question on a word that is not in the vocabulary, but near one that is; otherwise nothing."""
     is_there = not bench.size or bench.known("class " + word) is not None
     is_many = " It was run as one word, with a blank in it." * (" " in word.strip())
-    question = "" if is_there else is_many or meant(word, [row.word for row in bench.outcomes()])
+    question = "" if is_there else is_many or meant(word, bench.by_word())
     return "%s is not in the vocabulary.%s" % (in_quotes(word, " " in word), question) if question else ""
 
 
 def no_class(line: str, bench: Stage) -> str:
     stem = line.partition(" ")[2]
-    is_word = any(row.word == stem for row in bench.outcomes())
-    how = "It is a word: why %s shows its stem." if is_word else "find %s shows the words and stems that have it in them."
+    how = "It is a word: why %s shows its stem." if stem in bench.by_word() else "find %s shows the words and stems that have it in them."
     return ("No word has the stem %s. " + how) % (in_quotes(stem), short(stem)) if stem else "No word has the empty stem."
 
 
 def other_lines(line: str, bench: Stage) -> str:
-    path, size = file_of(line, bench), next(int(row.count) for row in bench.read("stats") if row.kind == "words")
-    has = counted(len((read_file(path) or b"").splitlines()), "line")
-    return "%s has %s, and there are %s: it needs a line for each word. The mark stays." % (short(path), has, counted(size, "word"))
+    path, size = file_of(line, bench), counted(len(bench.outcomes()), "word")
+    return "%s has %s, and there are %s: it needs a line for each word. The mark stays." % (short(path), counted(len(read_lines(path)), "line"), size)
 
 
 def no_stem(_: str, bench: Stage) -> str:
@@ -151,6 +156,9 @@ def no_name(line: str, bench: Stage) -> str:
         return begin + "this is a " + use % short(name)
     if any(row.kind == "integer" and row.name == name for row in bench.read("integers a")):
         return "%sthis is an integer variable, and no %s. integers WORD shows its value at the end of a run." % (begin, kinds[0])
+    entry = next((key for key in places.entries if argument in (key[2], "'%s'" % key[2])), None) if command == "uses" else None
+    if entry:
+        return "%s is a string of an among: uses %s %s %s." % (short(argument), *map(short, entry))
     others = " The script has %s." % (in_words(there, "and") if there else "none")
     others += " Declare and define a new one in the file." if command in ("routine", "grouping") else ""
     return "%sthere is no %s of this name.%s" % (begin, " or ".join(kinds), meant(name, there) or others)
@@ -176,8 +184,12 @@ def unknown(line: str, bench: Stage) -> str:
         what = "and a number: among NAME K, then an among, then a line with a single point."
         return "%s needs a name%s%s" % (command, ": %s." % COMMANDS["uses"].usage if command == "uses" else " " + what, known)
     if command in COMMANDS:
-        return "%s needs more: %s." % (command, COMMANDS[command].usage) if COMMANDS[command].takes else "%s takes nothing after it." % command
+        other = {"classes": "class WORD", "stems": "find TEXT", "counts": "uses NAME", "script": "show NAME"}.get(command, "")
+        said = "%s takes nothing after it." % command + " For a part of it: %s." % other * bool(other)
+        return "%s needs more: %s." % (command, COMMANDS[command].usage) if COMMANDS[command].takes else said
     longer = [name for name in COMMANDS if name.startswith(command.casefold())] if command else []
+    if line and bench.known("class " + line) is not None:
+        return "%s is a word: why %s shows its way to its stem. help lists the commands." % (short(line), short(line))
     question = meant(command, COMMANDS) or (" Did you mean %s?" % in_words(longer, "or") if 0 < len(longer) < 4 else "")
     return "%s is not a command.%s help lists the commands." % (short(command or line.strip()), question)
 
@@ -201,24 +213,15 @@ def not_written(command: str, path: str, bench: Stage) -> str:
     path = path or (bench.words or "" if command == "append" else "")
     if not path:
         return "%s needs a file: %s%s." % (command, COMMANDS[command].usage, ", such as save " + short(bench.script) if command == "save" else "")
-    folder, name, is_script = os.path.dirname(path) or ".", short(path), is_same(path, bench.script)
-    cannot, other = name + " cannot be written: ", "Save to another file" if command == "save" else "Name another file"
-    return next(said for is_so, said in (
-        (command != "save" and is_script, may_not("script", command, path)),
-        (
-            command == "append" and os.path.exists(path) and not is_same(path, bench.words),
-            name + " is there already, and append puts words only into the file of words or a new file.",
-        ),
-        (
-            os.path.realpath(path) == os.path.realpath(bench.script) and not os.path.lexists(path),
-            name + " is not there any more, and was not written: save to another file.",
-        ),
-        (not os.path.isdir(folder), cannot + "there is no folder %s." % short(folder)),
-        (os.path.isdir(path), cannot + "it is a folder. Name a file in it."),
-        (not os.access(path if os.path.exists(path) else folder, os.W_OK), cannot + "you may not write there. %s." % other),
-        (path in bench.saved() or is_script, may_not("changed", command, path)),
-        (True, cannot + no_room(folder) + "." + " It has its former text." * os.path.exists(path)),
-    ) if is_so)
+    folder, is_script, is_there = os.path.dirname(path) or ".", is_same(path, bench.script), os.path.exists(path)
+    is_list = is_same(path, bench.words)
+    return may_not(next(key for is_so, key in (
+        (command != "append" and is_list, "words"), (command != "save" and is_script, "script"),
+        (command == "append" and is_there and not is_list, "no words"),
+        (os.path.realpath(path) == os.path.realpath(bench.script) and not os.path.lexists(path), "gone"),
+        (not os.path.isdir(folder), "no folder"), (os.path.isdir(path), "folder"), (not os.access(path if is_there else folder, os.W_OK), "closed"),
+        (path in bench.saved() or is_script, "changed"), (is_there, "full, there"), (True, "full"),
+    ) if is_so), command, path)
 
 
 def no_room(folder: str) -> str:
@@ -256,26 +259,26 @@ def converting(code: str, path: str) -> str:
     return "iconv -f %s -t utf-8 %s > NEW. Then, if NEW is right: mv NEW %s" % (code, name, name)
 
 
-def early(line: str, bench: Stage) -> str:
-    """Returns what is wrong with the line before a block, so that it opens none."""
-    command, name, k = [*line.split(" ", 2), "", ""][:3]
-    if command in OPEN_BLOCKS:
+def early(line: str, bench: Bench) -> str:
+    """Returns what is wrong with the line before a block, so that it opens none. The program says so of an empty block, too."""
+    if line in OPEN_BLOCKS:
         return ""
-    places, is_among = bench.places(), command == "among"
-    if is_among and (not name or places.kind(name) == "routine" and not re.match(r"[0-9]{1,9}\Z", k)):
-        return refused(52, line, bench)
-    if places.kind(name) != ("grouping" if command == "grouping" else "routine") or k and not is_among:
-        return refused(45, line, bench)
-    return amongs_of(line, bench) if is_among and not 1 <= int(k) <= places.count(name) else ""
+    code, (command, name) = (bench.ask(line, ".").refusal() or (0, ""))[0], [*line.split(" ", 2), ""][:2]
+    is_unknown = command == "among" and name and bench.places().kind(name) != "routine"
+    return refused(45 if is_unknown else code, line, bench) if is_unknown or code in (45, 46, 52, 53) else ""
 
 
 def may_not(why: str, command: str, path: str, then: str = "") -> str:
     """Returns why a command does not write to a file, by its key in MAY_NOT."""
-    which = "a new" if why in ("there", "others") else "another"
-    return MAY_NOT[why].format(path=short(path), c=command, other="%s %s file" % ("save to" if command == "save" else "name", which), then=then)
+    to, folder = "save to %s file" if command == "save" else "name %s file", os.path.dirname(path) or "."
+    room = no_room(folder) if "{room}" in MAY_NOT[why] else ""
+    other, new = to % "another", to % "a new"
+    fields = {"other": other, "Other": other.capitalize(), "new": new, "then": then, "folder": short(folder), "room": room}
+    return MAY_NOT[why].format(path=short(path), c=command, **fields)
 
 
 # By the number of a refusal what makes its sentence of the line and the bench.
 SPECIAL: Dict[int, Callable[[str, Stage], str]] = {
+    54: lambda _, bench: SENTENCES[54] + " remove WORD takes an added word out." * bool(getattr(bench, "added", [])),
     41: absent, 45: no_name, 46: amongs_of, 52: unknown, 53: no_name, 57: bad_file, 59: no_class, 67: no_stem, 74: other_lines,
 }

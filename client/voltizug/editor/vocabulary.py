@@ -26,7 +26,7 @@ class State:
 
     def __init__(self, wish: Wish, replies: Sequence[Reply], older: Optional["State"], marked: Dict[str, rows.Outcome]):
         stats, stems = (reply.lines for reply in replies[:2])
-        self.wish, self.is_counted, self.figures = wish, False, {row.kind: int(row.count) for row in rows.read("stats", stats)}
+        self.wish, self.is_counted, self.figures = wish, False, rows.figures(stats)
         # (rows that are as in the state before are not read again, if each is one line)
         same = older if older and older.wish.words == wish.words and len(older.outcomes) == len(older.stems) == len(stems) else None
         new = rows.outcomes([line for line, was in zip(stems, same.stems) if line != was] if same else stems)
@@ -199,7 +199,7 @@ class Vocabulary:
         events, figures = self.ask("events " + word, "integers " + word)
         if not events.is_done:
             return [sentence(events, ["why " + word], self.stage)]
-        shown = reports.why(word, rows.read("events", events.lines), rows.read("integers", figures.lines), self.stage.places(), {}, False)
+        shown = reports.why(word, rows.read("events", events.lines), rows.read("integers", figures.lines), self.stage.places(), False)
         return shown + self.answer("class", word, "why " + word)
 
     def changes(self, name: str) -> List[str]:

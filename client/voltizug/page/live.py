@@ -209,7 +209,7 @@ class Live:
                 self.owed.pop(0)()
 
     def show_figures(self) -> None:
-        self.publish(figures={row.kind: int(row.count) for row in self.bench.read("stats")})
+        self.publish(figures=rows.figures(self.bench.known("stats") or []))
 
     def show_ink(self) -> None:
         """Shows colours and rules, as far as the program tells them; and names the edit by the definitions that differ."""
@@ -407,10 +407,10 @@ class Live:
             figures = rows.read("integers", self.ask("integers " + word).lines)
             turn = loops.turning(word, events, self.bench)
             places = self.bench.places()
-            run = with_tests(self.bench.program, places, word, events, figures) if has_tests else None
-        found = timeline(word, run.events if run else events, places, run.tests if run else {})
+            events, is_known = with_tests(self.bench.program, places, word, events, figures) if has_tests else (events, False)
+        found = timeline(word, events, places)
         named_figures = [[getattr(row, "name", "steps"), getattr(row, "value", getattr(row, "count", ""))] for row in figures]
-        return {**found, "figures": named_figures, "turn": turn, "hasTests": bool(run and run.is_known), "script": self.script}
+        return {**found, "figures": named_figures, "turn": turn, "hasTests": is_known, "script": self.script}
 
     def uses(self, rules: Sequence[Sequence[str]]) -> Dict[str, Any]:
         """Returns the places of the words that use one of some rules: name; name and number; or name, number and string."""

@@ -3,7 +3,7 @@ and after."""
 from typing import Any, Dict, List, Sequence
 
 from ..places import Places
-from ..reports import Call, Tests
+from ..reports import Call
 
 # How many steps are shown, at most.
 MOST = 400
@@ -12,8 +12,8 @@ MOST = 400
 class Timeline:
     """Reads events one after another. A minor step is shown only if all are asked for."""
 
-    def __init__(self, word: str, places: Places, tests: Tests):
-        self.now, self.places, self.tests = word, places, tests
+    def __init__(self, word: str, places: Places):
+        self.now, self.places = word, places
         self.steps: List[Dict[str, Any]] = []
         self.calls: List[Call] = []
 
@@ -44,9 +44,8 @@ class Timeline:
         self.note("taken", self.line(self.places.entries.get((row.name, row.k, row.string))), k=row.k, string=row.string)
 
     def read_test(self, row: Any) -> None:
-        _, test = self.tests[row.name, row.n]
-        if not test.is_turned:
-            self.note("test", self.places.text.count(b"\n", 0, test.tokens[0].start) + 1, True, what=test.text, true=row.signal == "t")
+        if not row.is_negative:
+            self.note("test", self.places.text.count(b"\n", 0, row.start) + 1, True, what=row.text, true=row.signal == "t")
 
     def read_unknown(self, row: Any) -> None:
         self.note("unknown", 0, True)
@@ -72,9 +71,9 @@ class Timeline:
                 self.note("asked" if call.asks_only else "done", line, is_minor, what=call.name, true=is_true)
 
 
-def timeline(word: str, events: Sequence[Any], places: Places, tests: Tests) -> Dict[str, Any]:
+def timeline(word: str, events: Sequence[Any], places: Places) -> Dict[str, Any]:
     """Returns the steps of a run and its outcome. Of very many steps there are the first and the last ones."""
-    line = Timeline(word, places, tests)
+    line = Timeline(word, places)
     line.read(events)
     end, steps = events[-1], line.steps
     if len(steps) > MOST:

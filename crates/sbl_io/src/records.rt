@@ -37,8 +37,18 @@ pub fn push_text(
     ensures fields { OnOk result (fields_of csv_record.new ≡ fields_of csv_record.old ++ encode_utf8_all characters.now ∷ []) }
     ensures partial { OnOk result (partial_of csv_record.new ≡ []) }
 {
-    set_text(text, characters)?;
-    csv_record.push_field(text.as_bytes())
+    let mut room = [0_u8; 64];
+    let mut end = 0;
+    for c in characters {
+        let code = *c as u32;
+        if (end == 64) | (code >= 0x80) {
+            set_text(text, characters)?;
+            return csv_record.push_field(text.as_bytes());
+        }
+        room[end] = code as u8;
+        end += 1;
+    }
+    csv_record.push_field(&room[..end])
 }
 
 /// Returns the text of one record: its fields, quoted if `csv` quotes them, and a line feed. Returns `AllocError` if an

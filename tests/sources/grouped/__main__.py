@@ -3,10 +3,12 @@
 
   python3 tests/sources/grouped TOP JOBS CRATE[/EDIT]..         TOP: a copy of the repository in which these crates were checked
   python3 tests/sources/grouped TOP JOBS --record CRATE[/EDIT]..         the same; writes what came of each edit to tests/sources/tried.csv
+  python3 tests/sources/grouped TOP JOBS --functions CRATE[/EDIT]..      the same with --record, by checks of the functions that edits change
   python3 tests/sources/grouped TOP JOBS --untried CRATE..      prints the edits that tried.csv does not say are refused as all is now
   python3 tests/sources/grouped TOP JOBS --tried CRATE..        only says what tried.csv has of these crates' edits
   python3 tests/sources/grouped TOP JOBS --sample N COMMIT      tries N edits of all crates, which the commit chooses
   python3 tests/sources/grouped TOP JOBS --compile CRATE[/EDIT]..         only says which edits do not compile; proves nothing
+  python3 tests/sources/grouped TOP JOBS --read CRATE..         only says which edits show nothing, since they add a function without `ensures`
 
 What no group settles is tried again in a smaller group, without the edits that are settled, and in the end alone. Edits of texts outside
 of bodies are tried alone from the start. That an edit is accepted is said only of a check of that edit alone.
@@ -144,13 +146,33 @@ def try_sample(kit: Kit, jobs: int, number: int, commit: str, tally: Tally) -> N
         tally.add(edit, verdict)
 
 
+def try_functions(kit: Kit, jobs: int, wanted: dict[str, set[str]], tally: Tally) -> None:
+    """Tries the edits of these crates in checks of the functions that they change, and writes to tried.csv what came of each."""
+    sources = {it: Sources(kit.folder(it)) for it in wanted}
+    edits = [edit for it, names in wanted.items() for edit in edits_of(kit, it, sources[it]) if not edit.is_control and (not names or edit.name in names)]
+    sample, keepers = Sample(kit, sources, edits), {it: keeper(kit, it) for it in wanted}
+    for edit, verdict in sample.try_all(sample.edits, jobs, lambda edit, verdict, seconds: keepers[edit.crate](edit, verdict, seconds)):
+        tally.add(edit, verdict)
+    for edit in edits:
+        if edit.misfit:
+            tally.add(edit, Verdict(Kind.BAD, edit.misfit))
+        elif edit not in sample.edits:
+            tally.add(edit, Verdict(Kind.UNKNOWN, "it is not inside of bodies: it needs a check of the whole crate"))
+
+
+def read_edits(kit: Kit, crates: list[str]) -> None:
+    """Prints the edits of these crates that fit and show nothing."""
+    edits = [edit for it in crates for edit in edits_of(kit, it, Sources(kit.folder(it)))]
+    print("".join(f"shows nothing {it.label}: {it.misfit}\n" for it in edits if it.texts and it.misfit), end="")
+
+
 def compile_edits(kit: Kit, wanted: dict[str, set[str]]) -> bool:
     """Compiles the edits of these crates, prints those that do not compile, and returns whether all compile."""
     sources = {it: Sources(kit.folder(it)) for it in wanted}
     edits = [edit for it, names in wanted.items() for edit in edits_of(kit, it, sources[it]) if not names or edit.name in names]
     bad = Compiling(kit, sources, edits).run()
     for edit, why in bad:
-        print(f"does not compile {edit.label}: {why[:400]}", flush=True)
+        print(f"{'shows nothing' if edit.texts and edit.misfit else 'does not compile'} {edit.label}: {why[:400]}", flush=True)
     left_out = sum(not it.misfit and not has_code(it) for it in edits)
     print(f"{len(edits) - len(bad) - left_out} compile, {len(bad)} not" + (f", {left_out} have no code" if left_out else ""))
     return not bad
@@ -161,6 +183,9 @@ def main(top: str, jobs: str, *names: str) -> int:
     verb, words = (names[0], list(names[1:])) if names[0].startswith("--") else ("", list(names))
     if verb == "--compile":
         return 0 if compile_edits(kit, edits_by_crate(words)) else 1
+    if verb == "--read":
+        read_edits(kit, words or list(kit.crates))
+        return 0
     if verb == "--untried":
         print("".join(f"{it}\n" for it in untried(kit, words or list(kit.crates))), end="")
         return 0
@@ -169,6 +194,8 @@ def main(top: str, jobs: str, *names: str) -> int:
         return 1 if untried(kit, words or list(kit.crates)) else 0
     if verb == "--sample":
         try_sample(kit, int(jobs), int(words[0]), words[1], tally)
+    elif verb == "--functions":
+        try_functions(kit, int(jobs), edits_by_crate(words), tally)
     else:
         for crate, wanted in edits_by_crate(words).items():
             is_proved &= try_crate(kit, crate, wanted, int(jobs), tally, verb == "--record")

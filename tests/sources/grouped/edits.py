@@ -6,7 +6,7 @@ import re
 from dataclasses import dataclass, field
 
 from kit import Kit
-from sources import Function, functions_of, module_of
+from sources import Function, functions_of, module_of, without_ensures
 
 
 @dataclass(frozen=True)
@@ -29,7 +29,7 @@ class Edit:
     is_control: bool
     # The texts of the files with this edit alone.
     texts: dict[str, str]
-    # Why it cannot be applied, or an empty text.
+    # Why it cannot be applied, or would show nothing; or an empty text.
     misfit: str = ""
     spans: list[Span] = field(default_factory=list)
     # Why it cannot be tried together with others, or an empty text.
@@ -84,6 +84,16 @@ def pairs_of(text: str) -> list[tuple[str, str, str]]:
     return found
 
 
+def unknown_call(pairs: list[tuple[str, str, str]], texts: dict[str, str], sources: Sources) -> str:
+    """Says which function these pairs add that has no `ensures`, or returns an empty text. A caller knows a function by its clauses alone. So
+    an edit that calls such a function is refused whatever the function does."""
+    for path in dict.fromkeys(path for path, _, new in pairs if path.startswith("src/") and re.search(r"\bfn \w", new)):
+        added = without_ensures(texts[path]) - without_ensures(sources.text(path))
+        if added:
+            return f"it adds `fn {min(added)}` without an `ensures`, so it is refused whatever that function does"
+    return ""
+
+
 def read_edit(kit: Kit, sources: Sources, crate: str, file: str, is_control: bool = False) -> Edit:
     """Reads an edit, and finds the texts that it replaces."""
     texts, why = kit.read_edit(file, crate)
@@ -92,6 +102,7 @@ def read_edit(kit: Kit, sources: Sources, crate: str, file: str, is_control: boo
         return edit
     with open(file, encoding="utf-8") as it:
         pairs = pairs_of(it.read())
+    edit.misfit = unknown_call(pairs, edit.texts, sources)
     for path, old, new in pairs:
         text = sources.text(path)
         if text.count(old) != 1:

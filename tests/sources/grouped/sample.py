@@ -1,4 +1,4 @@
-"""A choice of edits by the checksum of a commit. Each is tried in a check of the functions that it changes, from nothing.
+"""Edits that are tried in a check of the functions that they change, from nothing: a choice by the checksum of a commit, or those named.
 
 Such a check needs the libraries below its crate, as rt ci has proved and kept them on this machine, and nothing else. It says nothing of
 the other functions of the crate: these rt ci has proved.
@@ -6,7 +6,9 @@ the other functions of the crate: these rt ci has proved.
 from __future__ import annotations
 
 import hashlib
+import time
 from concurrent.futures import ThreadPoolExecutor
+from typing import Callable
 
 from edits import Edit, Sources, find_functions, name_paths
 from judging import Kind, Verdict, judge
@@ -20,12 +22,12 @@ def choose(edits: list[Edit], number: int, commit: str) -> list[Edit]:
     return order[:number]
 
 
-def groups_by_crate(edits: list[Edit]) -> list[list[Edit]]:
-    """Puts edits of one crate together, no two of one function."""
+def groups_by_crate(edits: list[Edit], most: int = 12) -> list[list[Edit]]:
+    """Puts edits of one crate together, no two of one function, and no more than `most`."""
     groups: list[list[Edit]] = []
     for edit in edits:
         for group in groups:
-            if group[0].crate == edit.crate and not any(set(it.paths) & set(edit.paths) for it in group):
+            if group[0].crate == edit.crate and len(group) < most and not any(set(it.paths) & set(edit.paths) for it in group):
                 group.append(edit)
                 break
         else:
@@ -48,12 +50,23 @@ class Sample:
 
     def run(self, number: int, commit: str, jobs: int) -> list[tuple[Edit, Verdict]]:
         """Tries so many edits, and returns what is said of each."""
-        edits = choose(self.edits, number, commit)
+        return self.try_all(choose(self.edits, number, commit), jobs)
+
+    def try_all(self, edits: list[Edit], jobs: int, keep: Callable = lambda edit, verdict, seconds: None) -> list[tuple[Edit, Verdict]]:
+        """Tries these edits, and returns what is said of each. `keep` is called with that and the seconds, those of a group shared out."""
         missing = self.kit.take_libraries({it.crate for it in edits})
         if missing:
             return [(it, Verdict(Kind.UNKNOWN, f"{missing} is not proved here: run rt ci first")) for it in edits]
+
+        def try_kept(group: list[Edit]) -> list[tuple[Edit, Verdict]]:
+            begin = time.time()
+            found = self.try_group(group)
+            for edit, verdict in found:
+                keep(edit, verdict, (time.time() - begin) / len(group))
+            return found
+
         with ThreadPoolExecutor(jobs) as pool:
-            return [it for found in pool.map(self.try_group, groups_by_crate(edits)) for it in found]
+            return [it for found in pool.map(try_kept, groups_by_crate(edits)) for it in found]
 
     def try_group(self, edits: list[Edit]) -> list[tuple[Edit, Verdict]]:
         """Tries edits of one crate in one check, and alone what that does not settle."""

@@ -2,6 +2,7 @@
 from __future__ import annotations
 
 import re
+from collections import Counter
 from dataclasses import dataclass
 
 CLAUSE = re.compile(r"(\b(requires|ensures|decreases)\*?(\s+\w+)?|\bghost\s+\w+\s*:)\s*\Z")
@@ -96,11 +97,28 @@ def blocks_of(text: str) -> list[tuple[int, int, str]]:
     return found
 
 
+def trait_blocks(text: str) -> list[tuple[int, int]]:
+    """Returns where the traits of a blanked text, and the `impl` blocks of traits, begin and end."""
+    heads = [it for it in BLOCK.finditer(text) if it[2] == "trait" or re.search(r"\bfor\b", re.sub(r"\bwhere\b.*", "", it[1], flags=re.S))]
+    return [(it.end(), closing(text, it.end() - 1)) for it in heads]
+
+
 def is_of_trait(function: Function, source: str) -> bool:
     """Returns whether a function of a file is a method of a trait or of an `impl` of one."""
-    text = blank(source)
-    heads = [it for it in BLOCK.finditer(text) if it.end() <= function.start < closing(text, it.end() - 1)]
-    return any(it[2] == "trait" or re.search(r"\bfor\b", re.sub(r"\bwhere\b.*", "", it[1], flags=re.S)) for it in heads)
+    return any(start <= function.start < end for start, end in trait_blocks(blank(source)))
+
+
+def without_ensures(source: str) -> Counter[str]:
+    """Counts, by their names, the functions that have a body and no `ensures`, also those inside of bodies. A method of a trait has the
+    clauses of the trait, so it does not count."""
+    text, found = blank(source), Counter()
+    of_traits = trait_blocks(text)
+    for head in re.finditer(r"\bfn (\w+)", text):
+        body = body_after(text, head.end())
+        in_trait = any(start <= head.start() < end for start, end in of_traits)
+        if body is not None and not in_trait and not re.search(r"\bensures\b", text[head.end() : body]):
+            found[head[1]] += 1
+    return found
 
 
 def functions_of(file: str, source: str) -> list[Function]:

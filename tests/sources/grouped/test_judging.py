@@ -7,11 +7,11 @@ from __future__ import annotations
 import os
 import unittest
 
-from edits import Edit, pairs_of
+from edits import Edit, Sources, pairs_of, unknown_call
 from judging import Changed, Kind, judge, judge_elsewhere
 from kit import Check, messages_of
 from sample import choose, groups_by_crate
-from sources import functions_of, module_of, owner_of
+from sources import functions_of, module_of, owner_of, without_ensures
 
 SAMPLES = f"{os.path.dirname(os.path.abspath(__file__))}/samples"
 
@@ -159,6 +159,31 @@ class Places(unittest.TestCase):
         self.assertEqual([module_of(it) for it in ("src/lib.rt", "src/a.rt", "src/a/mod.rt", "src/a/b.rt")], ["", "::a", "::a", "::a::b"])
         self.assertEqual(owner_of("impl<'a, T: Tables> Runner<'a, T> "), "Runner")
         self.assertEqual(owner_of("impl<T: Drop> From<AllocFailed<T>> for LoadFault "), "LoadFaultFrom")
+
+    def test_functions_without_ensures(self) -> None:
+        text = (
+            "fn one(a: u8) -> u8\n    ensures { result ≡ a }\n{\n    fn inner() {}\n    a\n}\n"
+            "fn two() { let ensures = 1; }\n// fn three() {}\ntrait Walk { fn go(&self) {} }\nimpl Walk for u8 { fn go(&self) {} }\nimpl Tree { fn two(&self) {} }\n"
+        )
+        self.assertEqual(without_ensures(text), {"inner": 1, "two": 2})
+
+    def why_with(self, helper: str) -> str:
+        """Returns what is said of an edit that adds this function and calls it."""
+        old = "use a::B;\nfn f(a: u8) -> u8\n    ensures { result ≡ a }\n{\n    a\n}\n"
+        sources = Sources("")
+        sources.texts["src/a.rt"] = old
+        pairs = [("src/a.rt", "    a", "    less(a)"), ("src/a.rt", "use a::B;", f"use a::B; {helper}")]
+        return unknown_call(pairs, {"src/a.rt": old.replace("    a\n", "    less(a)\n").replace("use a::B;", pairs[1][2])}, sources)
+
+    def test_an_edit_with_a_function_that_promises_nothing_shows_nothing(self) -> None:
+        self.assertIn("`fn less`", self.why_with("fn less(a: u8) -> u8 { 0 }"))
+        self.assertEqual(self.why_with("fn less(a: u8) -> u8 ensures { result ≡ 0 } { 0 }"), "")
+
+    def test_an_edit_of_a_function_without_ensures_is_as_before(self) -> None:
+        sources = Sources("")
+        sources.texts["src/a.rt"] = "pub fn end(self) {}\n"
+        pairs = [("src/a.rt", "pub fn end(self) {}", "pub fn end(self) { loop {} }")]
+        self.assertEqual(unknown_call(pairs, {"src/a.rt": "pub fn end(self) { loop {} }\n"}, sources), "")
 
     def test_pairs_of_an_edit(self) -> None:
         self.assertEqual(pairs_of("file: src/a.rt\nold: one\nnew: two\nold:  three\nnew:\n"), [("src/a.rt", "one", "two"), ("src/a.rt", " three", "")])
