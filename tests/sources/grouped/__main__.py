@@ -151,13 +151,12 @@ def try_functions(kit: Kit, jobs: int, wanted: dict[str, set[str]], tally: Tally
     sources = {it: Sources(kit.folder(it)) for it in wanted}
     edits = [edit for it, names in wanted.items() for edit in edits_of(kit, it, sources[it]) if not edit.is_control and (not names or edit.name in names)]
     sample, keepers = Sample(kit, sources, edits), {it: keeper(kit, it) for it in wanted}
-    for edit, verdict in sample.try_all(sample.edits, jobs, lambda edit, verdict, seconds: keepers[edit.crate](edit, verdict, seconds)):
+    found = sample.try_all(sample.edits, jobs, lambda edit, verdict, seconds: keepers[edit.crate](edit, verdict, seconds))
+    for edit, verdict in sample.try_others():
+        keepers[edit.crate](edit, verdict, 0)
+        found.append((edit, verdict))
+    for edit, verdict in [*found, *((it, Verdict(Kind.BAD, it.misfit)) for it in edits if it.misfit)]:
         tally.add(edit, verdict)
-    for edit in edits:
-        if edit.misfit:
-            tally.add(edit, Verdict(Kind.BAD, edit.misfit))
-        elif edit not in sample.edits:
-            tally.add(edit, Verdict(Kind.UNKNOWN, "it is not inside of bodies: it needs a check of the whole crate"))
 
 
 def read_edits(kit: Kit, crates: list[str]) -> None:

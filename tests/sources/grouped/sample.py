@@ -36,17 +36,20 @@ def groups_by_crate(edits: list[Edit], most: int = 12) -> list[list[Edit]]:
 
 
 class Sample:
-    """Edits of bodies, of crates that are proved. Edits of other texts are left to a whole check."""
+    """Edits of bodies, of crates that are proved. Edits of other texts are in `others`: they need a check of the whole crate."""
 
     def __init__(self, kit: Kit, sources: dict[str, Sources], edits: list[Edit]) -> None:
         self.kit, self.sources = kit, sources
-        self.edits = []
+        self.edits: list[Edit] = []
+        self.others: list[Edit] = []
         for edit in edits:
             if not edit.misfit and not edit.alone:
                 find_functions(edit, sources[edit.crate])
             if not edit.misfit and not edit.alone:
                 name_paths(edit, sources[edit.crate])
                 self.edits.append(edit)
+            elif not edit.misfit:
+                self.others.append(edit)
 
     def run(self, number: int, commit: str, jobs: int) -> list[tuple[Edit, Verdict]]:
         """Tries so many edits, and returns what is said of each."""
@@ -67,6 +70,13 @@ class Sample:
 
         with ThreadPoolExecutor(jobs) as pool:
             return [it for found in pool.map(try_kept, groups_by_crate(edits)) for it in found]
+
+    def try_others(self) -> list[tuple[Edit, Verdict]]:
+        """Tries the edits of other texts, each in a check of its whole crate, from nothing."""
+        missing = self.kit.take_libraries({it.crate for it in self.others})
+        if missing:
+            return [(it, Verdict(Kind.UNKNOWN, f"{missing} is not proved here: run rt ci first")) for it in self.others]
+        return [(it, verdict_of(self.kit, it, self.kit.check(it.crate, it.texts, None))) for it in self.others]
 
     def try_group(self, edits: list[Edit]) -> list[tuple[Edit, Verdict]]:
         """Tries edits of one crate in one check, and alone what that does not settle."""
