@@ -7,7 +7,8 @@ use Rattle.sbl_ast.specs.Symbols as t
 use Rattle.sbl_ast.specs.Terminal.{lexeme_as}
 use Rattle.sbl_ast.specs.Tree.{Expression, expression, Sums, no_sums, sum, Product, product, Scales, no_scales, scale, Factor, negated, bracketed, numeral, variable, fixed, length_of, Argument, written_out, by_name, Entry, entry, Command, bracket, simple_, literal_, name_, non_, prefixed, counted, move_, named, splice_, setlimit_, assign_, compare_, compare_values_, among_, Rows, no_rows, row, Others, no_others, joined, Starter, no_starter, starter, Groups, bare, group, Term, term, Plain, declaration, escapes, macro, routine, grouping, Item, plain, backward}
 use Rattle.sbl_ast.specs.Spelled.{argument_terminal}
-use Rattle.sbl_ast.specs.Places.{AtDepth, placed_expression, placed_sums, placed_product, placed_scales, placed_factor, placed_entry, placed_entries, placed_command, placed_rows, placed_others, placed_starter, placed_groups, placed_names, placed_terms, placed_plain, placed_plains, placed_items, tokens}
+use Rattle.sbl_ast.specs.Places.{AtDepth, placed_expression, placed_sums, placed_product, placed_scales, placed_factor, placed_entry, placed_entries, placed_command, placed_rows, placed_others, placed_starter, placed_groups, placed_terms, placed_plain, tokens}
+use Rattle.sbl_ast.specs.inside.PlaceParts.{placed_names, placed_plains, placed_items}
 use Rattle.sbl_ast.specs.TerminalPlaces as roles
 use Rattle.sbl_ast.specs.Texts.{Text, TreeOf, script, body, terms, among, places_in, tokens_of}
 

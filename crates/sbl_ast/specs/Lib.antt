@@ -12,3 +12,4 @@ pub mod Counts
 pub mod Terminal
 pub mod Spelled
 pub mod TerminalPlaces
+pub mod inside

@@ -20,7 +20,3 @@ in_order (backward xs ∷ is) = map (λ (x : Plain). record { mode = Backward; p
 -- an item without memory addresses
 abbrev pub view_in_mode : declared.ItemInMode → ItemInMode
 view_in_mode x = record { mode = x.mode; plain = view_plain x.plain.now }
-
--- items of this mode; only functions inside the crate use it
-abbrev pub in_mode : Mode → List Plain → List ItemInMode
-in_mode m xs = map (λ (x : Plain). record { mode = m; plain = x }) xs

@@ -1,11 +1,10 @@
 -- The tokens of a tree, each with its nesting depth, followed by the rest.
-use Rattle.std.specs.Prelude.{ℕ, true, false, ◌+◌, ◌≤◌, List, [], ◌∷◌, map, Option, option_map}
+use Rattle.std.specs.Prelude.{ℕ, true, false, ◌+◌, ◌≤◌, List, [], ◌∷◌, map, option_map}
 use Rattle.std.specs.List.{AllByRecursion, cons_option}
 use Rattle.sbl_token.specs.Lexemes.{Lexeme, word, sign, name, number, inserts, macro_name}
 use Rattle.sbl_token.specs.declared.words.Word.TheVariants as words
 use Rattle.sbl_token.specs.declared.signs.Sign.TheVariants as signs
 use Rattle.sbl_ast.specs.Folds.{foldr}
-use Rattle.sbl_ast.specs.declared.tree.Base.{Base}
 use Rattle.sbl_ast.specs.Symbols as t
 use Rattle.sbl_ast.specs.Tree.{Expression, expression, Sums, no_sums, sum, Product, product, Scales, no_scales, scale, Factor, negated}
 use Rattle.sbl_ast.specs.Tree.{bracketed, numeral, variable, fixed, length_of, Entry, entry, Command, bracket, simple_, literal_, name_}
@@ -123,17 +122,3 @@ tokens ps = map (λ p. p.0) ps
 -- the tokens of a script
 abbrev pub lexemes_of : List Item → List Lexeme
 lexemes_of items = tokens (places items)
-
--- ---- names for parts of these definitions, which only proofs use
-
-abbrev pub placed_names : List (List ℕ) → List AtDepth → List AtDepth
-placed_names ns rest = foldr (λ n r. (name n, 0) ∷ r) rest ns
-
-abbrev pub placed_base : Option Base → List AtDepth → List AtDepth
-placed_base b rest = cons_option (option_map (λ x. (t.base x, 0)) b) rest
-
-abbrev pub placed_plains : List Plain → List AtDepth → List AtDepth
-placed_plains ps rest = foldr placed_plain rest ps
-
-abbrev pub placed_items : List Item → List AtDepth → List AtDepth
-placed_items is rest = foldr placed_item rest is

@@ -1,8 +1,7 @@
 -- A tree without memory addresses.
-use Rattle.std.specs.Prelude.{ℕ, List, map, Option, option_map, String, string_bytes}
+use Rattle.std.specs.Prelude.{List, map, option_map, string_bytes}
 use Rattle.std.specs.Option.{option_map_or}
 use Rattle.sbl_ast.specs.Folds.{foldr}
-use Rattle.std.specs.Global.{Global, Vec}
 use Rattle.sbl_ast.specs.declared.tree.Literal.{Literal}
 use Rattle.sbl_ast.specs.declared.tree.Argument.{Argument}
 use Rattle.sbl_ast.specs.declared.tree.Argument.TheVariants as arguments
@@ -12,14 +11,14 @@ use Rattle.sbl_ast.specs.declared.tree.Product.{Product}
 use Rattle.sbl_ast.specs.declared.tree.NextFactor.{NextFactor}
 use Rattle.sbl_ast.specs.declared.tree.Factor.{Factor}
 use Rattle.sbl_ast.specs.declared.tree.Factor.TheOpen.{NextProduct-F, Expression-F, Factor-F, Product-F, NextFactor-F}
-use Rattle.sbl_ast.specs.declared.tree.Factor.TheFolds.{fold-NextProduct, fold-Expression, fold-Factor, fold-Product, fold-NextFactor}
+use Rattle.sbl_ast.specs.declared.tree.Factor.TheFolds.{fold-Expression}
 use Rattle.sbl_ast.specs.declared.tree.Command.{Command}
 use Rattle.sbl_ast.specs.declared.tree.Among.{Among}
 use Rattle.sbl_ast.specs.declared.tree.Group.{Group}
 use Rattle.sbl_ast.specs.declared.tree.NextCommand.{NextCommand}
 use Rattle.sbl_ast.specs.declared.tree.RowOfCommands.{RowOfCommands as Row}
 use Rattle.sbl_ast.specs.declared.tree.Command.TheOpen.{Among-F, Command-F, Group-F, NextCommand-F, RowOfCommands-F}
-use Rattle.sbl_ast.specs.declared.tree.Command.TheFolds.{fold-Among, fold-Command, fold-Group, fold-NextCommand, fold-RowOfCommands}
+use Rattle.sbl_ast.specs.declared.tree.Command.TheFolds.{fold-Among, fold-Command, fold-RowOfCommands}
 use Rattle.sbl_ast.specs.declared.tree.Entry.{Entry}
 use Rattle.sbl_ast.specs.declared.tree.Term.{Term}
 use Rattle.sbl_ast.specs.declared.tree.Plain.{Plain}
@@ -68,36 +67,10 @@ product_step p = trees.product p.first (foldr (λ s. trees.scale s.0 s.1) trees.
 abbrev pub next_factor_step : NextFactor-F trees.Factor trees.Expression NextFactorView NextProductView trees.Product → NextFactorView
 next_factor_step s = (s.operator, s.factor)
 
-abbrev pub view_next_product : NextProduct → NextProductView
-view_next_product =
-    fold-NextProduct trees.Factor trees.Expression NextFactorView NextProductView trees.Product
-    factor_step expression_step next_factor_step next_product_step product_step
-
 abbrev pub view_expression : Expression → trees.Expression
 view_expression =
     fold-Expression trees.Factor trees.Expression NextFactorView NextProductView trees.Product
     factor_step expression_step next_factor_step next_product_step product_step
-
-abbrev pub view_factor : Factor → trees.Factor
-view_factor =
-    fold-Factor trees.Factor trees.Expression NextFactorView NextProductView trees.Product
-    factor_step expression_step next_factor_step next_product_step product_step
-
-abbrev pub view_product : Product → trees.Product
-view_product =
-    fold-Product trees.Factor trees.Expression NextFactorView NextProductView trees.Product
-    factor_step expression_step next_factor_step next_product_step product_step
-
-abbrev pub view_next_factor : NextFactor → NextFactorView
-view_next_factor =
-    fold-NextFactor trees.Factor trees.Expression NextFactorView NextProductView trees.Product
-    factor_step expression_step next_factor_step next_product_step product_step
-
-abbrev pub view_sums : List NextProduct → trees.Sums
-view_sums ss = foldr (λ s. trees.sum s.0 s.1) trees.no_sums (map view_next_product ss)
-
-abbrev pub view_scales : List NextFactor → trees.Scales
-view_scales ss = foldr (λ s. trees.scale s.0 s.1) trees.no_scales (map view_next_factor ss)
 
 -- ---- commands
 
@@ -159,28 +132,8 @@ view_among = fold-Among trees.Command AmongView GroupView NextCommandView RowVie
 abbrev pub view_command : Command → trees.Command
 view_command = fold-Command trees.Command AmongView GroupView NextCommandView RowView command_step among_step group_step next_command_step row_step
 
-abbrev pub view_group : Group → GroupView
-view_group = fold-Group trees.Command AmongView GroupView NextCommandView RowView command_step among_step group_step next_command_step row_step
-
-abbrev pub view_next_command : NextCommand → NextCommandView
-view_next_command =
-    fold-NextCommand trees.Command AmongView GroupView NextCommandView RowView command_step among_step group_step next_command_step row_step
-
 abbrev pub view_row : Row → RowView
 view_row = fold-RowOfCommands trees.Command AmongView GroupView NextCommandView RowView command_step among_step group_step next_command_step row_step
-
--- the rows that were read so far
-abbrev pub view_rows : List Row → trees.Rows
-view_rows rs = rows_of (map view_row rs)
-
-abbrev pub view_others : List NextCommand → trees.Others
-view_others os = foldr (λ o. trees.joined o.0 o.1) trees.no_others (map view_next_command os)
-
-abbrev pub view_groups : List Group → List trees.Entry → trees.Groups
-view_groups gs es = foldr (λ g. trees.group g.first g.others g.rows) (trees.bare es) (map view_group gs)
-
-abbrev pub view_starter : Option (Vec Row) → trees.Starter
-view_starter s = option_map_or (λ rs. trees.starter (view_rows rs.items)) s trees.no_starter
 
 -- ---- items
 
@@ -200,23 +153,3 @@ view_item (items.BackwardMode ps) = trees.backward (map view_plain ps.items)
 
 abbrev pub view_items : List Item → List trees.Item
 view_items is = map view_item is
-
--- ---- names for parts of these definitions, which only proofs use
-
-abbrev pub sums_of : List NextProductView → trees.Sums
-sums_of ss = foldr (λ s. trees.sum s.0 s.1) trees.no_sums ss
-
-abbrev pub scales_of : List NextFactorView → trees.Scales
-scales_of ss = foldr (λ s. trees.scale s.0 s.1) trees.no_scales ss
-
-abbrev pub view_name : Option (String Global) → Option (List ℕ)
-view_name n = option_map string_bytes n
-
-abbrev pub others_of : List NextCommandView → trees.Others
-others_of os = foldr (λ o. trees.joined o.0 o.1) trees.no_others os
-
-abbrev pub groups_of : List GroupView → List trees.Entry → trees.Groups
-groups_of gs es = foldr (λ g. trees.group g.first g.others g.rows) (trees.bare es) gs
-
-abbrev pub starter_of : Option (Vec RowView) → trees.Starter
-starter_of s = option_map_or (λ rs. trees.starter (rows_of rs.items)) s trees.no_starter

@@ -1,7 +1,8 @@
 //! Copies of trees.
 
 ghost use Rattle.std.specs.Prelude.{◌≡◌, IfOk, map, string_bytes};
-ghost use Rattle.sbl_ast.specs.View.{view_literal, view_argument, view_next_product, view_expression, view_factor, view_product, view_next_factor, view_sums, view_scales, view_entry, view_command, view_next_command, view_group, view_rows, view_others, view_groups, view_starter, view_among, view_plain, view_row, view_term};
+ghost use Rattle.sbl_ast.specs.View.{view_literal, view_argument, view_expression, view_entry, view_command, view_among, view_plain, view_row, view_term};
+ghost use Rattle.sbl_ast.specs.inside.ViewParts.{view_next_product, view_factor, view_product, view_next_factor, view_sums, view_scales, view_next_command, view_group, view_rows, view_others, view_groups, view_starter};
 
 use crate::tree::{
     Among, Argument, Command, Entry, Expression, Factor, Group, Grouping, Literal, NextCommand,

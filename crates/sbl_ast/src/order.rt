@@ -1,7 +1,8 @@
 //! The items of a script in text order, each with its mode.
 
 ghost use Rattle.std.specs.Prelude.{◌≡◌, [], ◌∷◌, ◌++◌, map, OnOk, IfOk};
-ghost use Rattle.sbl_ast.specs.Order.{in_mode, in_order, view_in_mode};
+ghost use Rattle.sbl_ast.specs.Order.{in_order, view_in_mode};
+ghost use Rattle.sbl_ast.specs.inside.OrderParts.{in_mode};
 ghost use Rattle.sbl_ast.specs.View.{view_items, view_plain};
 
 use crate::mode::Mode;

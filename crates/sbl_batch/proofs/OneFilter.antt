@@ -11,7 +11,8 @@ use Rattle.sbl_batch.specs.Filter.{AllShort, Filters, IsFiltered, Rows, Stops, T
 use Rattle.sbl_batch.specs.Laws.{FilteringIsOne, IsToldByBytes}
 use Rattle.sbl_batch.proofs.RowFacts.{filtered-append, filtered-none}
 use Rattle.sbl_io.proofs.Bytes.{none_of, stand_lines}
-use Rattle.sbl_io.specs.HeldInput.{BeginsLong, StandFirst, Took}
+use Rattle.sbl_io.specs.HeldInput.{BeginsLong, Took}
+use Rattle.sbl_io.specs.inside.LineSteps.{StandFirst}
 use Rattle.sbl_io.specs.LinesOf.{lines_of, max_line}
 use Rattle.sbl_io.specs.declared.faults.ServeFault.TheVariants as fault
 use Rattle.sbl_script.specs.OneReading.{FaultIsOne, ScriptIsOne, ScriptOrFault}

@@ -24,7 +24,8 @@ use Rattle.sbl_bench.specs.inside.Changes.{Brings, IsExchange, IsTaken}
 use Rattle.sbl_bench.specs.Contents.{Contents}
 use Rattle.sbl_bench.specs.Edits.{Edit, Replace, Limit, Whole, is_limit}
 use Rattle.sbl_bench.specs.inside.ProofNames.{meets_listed}
-use Rattle.sbl_rows.specs.Setting.{RunsSame, under}
+use Rattle.sbl_rows.specs.Setting.{under}
+use Rattle.sbl_rows.specs.inside.SameRuns.{RunsSame}
 
 -- ---- items
 

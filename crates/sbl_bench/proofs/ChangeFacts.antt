@@ -7,7 +7,7 @@ use Rattle.std.proofs.lemmas.Slice.Eq.{bytes_eq-Decides}
 use Rattle.std.proofs.lemmas.List.{get_or_default, get_or-set_other, get_or-set_same}
 use Rattle.std.proofs.lemmas.List.Elements.{All-head, All-tail}
 use Rattle.std.proofs.lemmas.List.Folds.{list_any_at}
-use Rattle.sbl_bench.specs.KeptRuns.{KeptWord, AreFresh, IsFresh, words_in}
+use Rattle.sbl_bench.specs.inside.KeptEntries.{KeptWord, AreFresh, IsFresh, words_in}
 use Rattle.sbl_bench.specs.inside.Last.{AreApart, AreThere, word_found, word_run}
 use Rattle.sbl_bench.specs.inside.Pairs.{Text, find}
 use Rattle.sbl_bench.specs.inside.Changes.{AreAllFresh, AreAnew, is_changed}

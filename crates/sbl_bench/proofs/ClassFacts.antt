@@ -19,9 +19,10 @@ use Rattle.sbl_semantics.specs.Outcome.{Outcome', Stem, Refused, outcome_of}
 use Rattle.sbl_semantics.specs.declared.outcome.Outcome.{Outcome}
 use Rattle.sbl_machine.specs.declared.outcome.RunTrace.{RunTrace}
 use Rattle.sbl_semantics.specs.declared.outcome.Outcome.TheVariants as code
-use Rattle.sbl_rows.specs.Classes.{Pair, class_of, class_with, in_order, is_stem, members_of, stem_of, stem_pairs, words_with}
+use Rattle.sbl_rows.specs.Classes.{Pair, class_of, class_with, in_order, is_stem, members_of, stem_of, stem_pairs}
+use Rattle.sbl_rows.specs.inside.ClassParts.{words_with}
 use Rattle.sbl_rows.specs.Grouping.{pair_cmp, pairs_in_order, with_pair}
-use Rattle.sbl_bench.specs.KeptRuns.{KeptWord, AreFresh, words_in}
+use Rattle.sbl_bench.specs.inside.KeptEntries.{KeptWord, AreFresh, words_in}
 use Rattle.sbl_bench.specs.inside.Pairs.{ArePaired, Key, Text, find, has, has_stem, key_cmp, plain}
 use Rattle.sbl_rows.specs.Rows.{Row, rows_of}
 use Rattle.sbl_rows.proofs.PairFacts.{then_eq}

@@ -3,7 +3,8 @@ use Rattle.std.proofs.Common.{◌≡◌, ◌∙◌, ◌&&◌, ◌<◌, ℕ, Bool
 use Rattle.std.specs.List.{find, list_any}
 use Rattle.std.specs.Str.{bytes_eq}
 use Rattle.std.proofs.lemmas.Slice.Eq.{bytes_eq-Decides}
-use Rattle.sbl_rows.specs.Classes.{Class, Pair, classes_of, in_order, members_of, pair_class, stem_pairs, words_with}
+use Rattle.sbl_rows.specs.Classes.{Class, Pair, classes_of, in_order, members_of, pair_class, stem_pairs}
+use Rattle.sbl_rows.specs.inside.ClassParts.{words_with}
 use Rattle.sbl_rows.specs.Rows.{Row}
 use Rattle.sbl_rows.proofs.ClassLaws.{any-class, any-same}
 use Rattle.sbl_rows.proofs.OrderFacts.{any-in_order, any-stems}

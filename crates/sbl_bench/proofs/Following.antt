@@ -10,7 +10,7 @@ use Rattle.sbl_semantics.specs.Outcome.{outcome_of}
 use Rattle.sbl_machine.specs.declared.outcome.RunTrace.{RunTrace}
 use Rattle.sbl_bench.specs.inside.Changes.{is_changed}
 use Rattle.sbl_rows.specs.Classes.{is_stem}
-use Rattle.sbl_bench.specs.KeptRuns.{KeptWord}
+use Rattle.sbl_bench.specs.inside.KeptEntries.{KeptWord}
 use Rattle.sbl_bench.specs.inside.Last.{Follows, word_found, word_run}
 use Rattle.sbl_bench.specs.inside.Pairs.{ArePaired, IsFollowed, IsOneMore, Key, Text, find, has, has_stem, is_pair_of}
 use Rattle.sbl_bench.specs.declared.change.Change.{Change}

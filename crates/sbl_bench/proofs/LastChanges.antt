@@ -17,11 +17,12 @@ use Rattle.sbl_machine.specs.declared.outcome.RunTrace.{RunTrace}
 use Rattle.sbl_bench.specs.inside.AffectedWords.{AffectedWords, is_affected}
 use Rattle.sbl_rows.specs.ChangedRows.{ChangedRow, changed_rows, if_changed, outcome_in, same_outcome}
 use Rattle.sbl_bench.specs.inside.Changes.{AreAnew, AreRun, Rerun, is_met, met_words, reruns, view_change}
-use Rattle.sbl_bench.specs.KeptRuns.{KeptWord, AreFresh, IsFresh, words_in}
+use Rattle.sbl_bench.specs.inside.KeptEntries.{KeptWord, AreFresh, IsFresh, words_in}
 use Rattle.sbl_bench.specs.inside.Last.{AreApart, change_of, last_change, last_changes, word_found, word_run}
 use Rattle.sbl_bench.specs.inside.Pairs.{Text, find}
 use Rattle.sbl_rows.specs.Rows.{rows_of}
-use Rattle.sbl_rows.specs.Setting.{RunsSame, Setting}
+use Rattle.sbl_rows.specs.Setting.{Setting}
+use Rattle.sbl_rows.specs.inside.SameRuns.{RunsSame}
 use Rattle.sbl_bench.specs.Vocabulary.{is_word}
 use Rattle.sbl_bench.specs.declared.change.Change.{Change}
 use Rattle.sbl_bench.proofs.ChangeFacts.{words_by_keys}

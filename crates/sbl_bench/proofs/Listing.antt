@@ -16,7 +16,8 @@ use Rattle.sbl_rows.specs.Setting.{Setting}
 use Rattle.sbl_rows.proofs.Loops.{next}
 use Rattle.sbl_rows.proofs.OrderFacts.{bytes_eq-back}
 use Rattle.sbl_semantics.specs.Outcome.{outcome_of}
-use Rattle.sbl_bench.specs.KeptRuns.{IsFresh, IsWord, KeptWord, words_in}
+use Rattle.sbl_bench.specs.KeptRuns.{IsWord}
+use Rattle.sbl_bench.specs.inside.KeptEntries.{IsFresh, KeptWord, words_in}
 use Rattle.sbl_bench.specs.Vocabulary.{is_skipped, is_word, vocabulary, with_word}
 use Rattle.sbl_bench.specs.declared.fault.EditFault.{EditFault}
 use Rattle.sbl_bench.specs.declared.fault.EditFault.TheVariants as fault

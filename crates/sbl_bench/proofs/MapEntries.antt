@@ -11,7 +11,8 @@ use Rattle.std.proofs.lemmas.Slice.Eq.{bytes_eq-Decides}
 use Rattle.sbl_rows.specs.Setting.{Setting}
 use Rattle.sbl_machine.specs.declared.outcome.RunTrace.{RunTrace}
 use Rattle.sbl_bench.specs.declared.fault.EditFault.{EditFault}
-use Rattle.sbl_bench.specs.KeptRuns.{KeptWord, words_in, AreFresh, IsFresh, IsWord, IsKept}
+use Rattle.sbl_bench.specs.KeptRuns.{IsWord}
+use Rattle.sbl_bench.specs.inside.KeptEntries.{KeptWord, words_in, AreFresh, IsFresh, IsKept}
 use Rattle.sbl_bench.specs.inside.Pairs.{IsOneMore, Text, find}
 pub use Rattle.sbl_bench.specs.inside.ShownRows.{row_shown}
 use Rattle.sbl_rows.specs.Rows.{rows_of}

@@ -13,9 +13,11 @@ use Rattle.sbl_bench.specs.inside.AffectedWords.{AffectedWords, is_affected, is_
 use Rattle.sbl_bench.specs.inside.Changes.{AreAnew, AreRun, AreStill, Brings, Rerun, is_changed, is_met, met_words, rerun_of, reruns, view_change}
 use Rattle.sbl_bench.specs.Contents.{Contents}
 use Rattle.sbl_bench.specs.Edits.{Edit, needs_run, runs_needed}
-use Rattle.sbl_bench.specs.KeptRuns.{KeptWord, AreFresh, IsFresh, IsWord, words_in}
+use Rattle.sbl_bench.specs.KeptRuns.{IsWord}
+use Rattle.sbl_bench.specs.inside.KeptEntries.{KeptWord, AreFresh, IsFresh, words_in}
 use Rattle.sbl_bench.specs.inside.Pairs.{Text, find}
-use Rattle.sbl_rows.specs.Setting.{Setting, RunsSame}
+use Rattle.sbl_rows.specs.Setting.{Setting}
+use Rattle.sbl_rows.specs.inside.SameRuns.{RunsSame}
 use Rattle.sbl_bench.specs.declared.change.Change.{Change}
 
 -- ---- which words are met

@@ -7,7 +7,7 @@ use Rattle.sbl_machine.specs.BuiltFrom.{meets}
 use Rattle.sbl_machine.specs.DifferLaws.{OneMeets}
 use Rattle.sbl_machine.specs.Marks.{has_item}
 use Rattle.sbl_semantics.specs.TouchedItems.{Item', Names'}
-use Rattle.sbl_bench.specs.KeptRuns.{AreFresh, KeptWord, words_in}
+use Rattle.sbl_bench.specs.inside.KeptEntries.{AreFresh, KeptWord, words_in}
 use Rattle.sbl_bench.specs.Traces.{rows_meeting}
 use Rattle.sbl_bench.specs.inside.AffectedWords.{AffectedWords, AreMet}
 use Rattle.sbl_bench.specs.inside.Changes.{is_met}

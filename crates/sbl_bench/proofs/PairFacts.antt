@@ -7,7 +7,7 @@ use Rattle.std.specs.Ordering.{is_eq}
 use Rattle.std.specs.BTreeSet.{BTreeSet}
 use Rattle.std.proofs.lemmas.Slice.Eq.{bytes_eq-Decides}
 use Rattle.sbl_semantics.specs.Outcome.{outcome_of}
-use Rattle.sbl_bench.specs.KeptRuns.{KeptWord}
+use Rattle.sbl_bench.specs.inside.KeptEntries.{KeptWord}
 use Rattle.sbl_rows.specs.Classes.{is_stem}
 use Rattle.sbl_bench.specs.inside.Pairs.{Key, Text, ArePaired, find, has, has_stem, is_pair_of, key_cmp}
 

@@ -5,7 +5,7 @@ use Rattle.std.proofs.lemmas.Slice.Eq.{bytes_eq-Decides}
 use Rattle.sbl_semantics.specs.TouchedItems.{Item', items_of, names_of, touched_items}
 use Rattle.sbl_machine.specs.declared.outcome.RunTrace.{RunTrace}
 use Rattle.sbl_rows.specs.Setting.{Setting}
-use Rattle.sbl_bench.specs.KeptRuns.{KeptWord, AreFresh, IsFresh, words_in}
+use Rattle.sbl_bench.specs.inside.KeptEntries.{KeptWord, AreFresh, IsFresh, words_in}
 use Rattle.sbl_bench.specs.inside.Pairs.{find}
 use Rattle.sbl_bench.specs.Traces.{trace_of}
 use Rattle.sbl_bench.specs.Vocabulary.{is_word}

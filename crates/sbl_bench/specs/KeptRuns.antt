@@ -1,14 +1,10 @@
 -- The representation of a bench: its words in their order, each with the outcome and the touches of its last run.
-use Rattle.std.specs.Prelude.{◌≡◌, ◌≤◌, ◌<◌, ℕ, List, [], ◌∷◌, map, length, All, ⊤}
-use Rattle.std.specs.declared.vec.Vec.{Vec}
-use Rattle.std.specs.declared.alloc.Global.{Global}
+use Rattle.std.specs.Prelude.{◌≤◌, ◌<◌, ℕ, List, length}
 use Rattle.sbl_script.specs.ParsedScript.{ParsedScript, source_of}
-use Rattle.sbl_machine.specs.declared.outcome.RunTrace.{RunTrace}
-use Rattle.sbl_semantics.specs.Outcome.{outcome_of, run_of, touches_of, used_of}
 use Rattle.sbl_rows.specs.ChangedRows.{ChangedRow}
 use Rattle.sbl_rows.specs.Setting.{Setting}
 use Rattle.sbl_semantics.specs.Limit.{max_word_length}
-use Rattle.sbl_bench.specs.Contents.{Contents, max_words}
+use Rattle.sbl_bench.specs.Contents.{Contents}
 
 pub record KeptRuns : Type 0 where
   pub script : ParsedScript
@@ -25,29 +21,6 @@ contents_of k = record { setting = record { script = source_of k.script; limit =
 abbrev pub setting_of : KeptRuns → Setting
 setting_of k = (contents_of k).setting
 
--- a word and its last run, as represented in memory
-abbrev pub KeptWord : Type 0
-KeptWord = Vec ℕ Global × RunTrace
-
-abbrev pub words_in : List KeptWord → List (List ℕ)
-words_in entries = map (λ e. e.0.items) entries
-
 -- a word that a vocabulary can have
 abbrev pub IsWord : List ℕ → Type 0
 IsWord word = (0 < length word) × (length word ≤ max_word_length)
-
--- a fresh run of the word has the same outcome, touches the same, and uses the same number of steps
-pub record IsFresh (s : Setting) (word : List ℕ) (traced : RunTrace) : Type 0 where
-  pub outcome : outcome_of traced.outcome ≡ run_of s.script word s.limit
-  pub touches : traced.touches.items ≡ touches_of s.script word s.limit
-  pub used : traced.used ≡ used_of s.script word s.limit
-
-abbrev pub AreFresh : Setting → List KeptWord → Type 0
-AreFresh s [] = ⊤
-AreFresh s (e ∷ entries) = IsFresh s e.0.items e.1 × AreFresh s entries
-
--- the invariant of the entries
-pub record IsKept (s : Setting) (entries : List KeptWord) : Type 0 where
-  pub fresh : AreFresh s entries
-  pub sound : All IsWord (words_in entries)
-  pub room : length entries ≤ max_words

@@ -7,3 +7,4 @@ pub mod AffectedWords
 pub mod Changes
 pub mod Last
 pub mod WordLists
+pub mod KeptEntries

@@ -42,7 +42,8 @@ impl Model for Bench {
     ghost use Rattle.sbl_ast.specs.contracts.tree.ScriptItem as e;
     ghost use Rattle.sbl_script.specs.ParsedScript.{source_of};
     ghost use Rattle.sbl_machine.specs.MachineOf.{IsLinkedMachineOf};
-    ghost use Rattle.sbl_bench.specs.KeptRuns.{KeptRuns, words_in, IsKept};
+    ghost use Rattle.sbl_bench.specs.KeptRuns.{KeptRuns};
+    ghost use Rattle.sbl_bench.specs.inside.KeptEntries.{words_in, IsKept};
     ghost use Rattle.sbl_bench.specs.inside.Last.{last_changes};
     ghost use Rattle.sbl_bench.specs.inside.Pairs.{IsIndexed};
     ghost use Rattle.sbl_rows.specs.Setting.{under};

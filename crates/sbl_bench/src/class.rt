@@ -2,8 +2,9 @@
 
 ghost use Rattle.std.specs.Prelude.{◌≡◌, map, IfOk};
 ghost use Rattle.std.specs.Option.{option_map};
-ghost use Rattle.sbl_rows.specs.Classes.{in_order, view_class, words_of, words_with};
-ghost use Rattle.sbl_bench.specs.KeptRuns.{AreFresh, words_in};
+ghost use Rattle.sbl_rows.specs.Classes.{in_order, view_class, words_of};
+ghost use Rattle.sbl_rows.specs.inside.ClassParts.{words_with};
+ghost use Rattle.sbl_bench.specs.inside.KeptEntries.{AreFresh, words_in};
 ghost use Rattle.sbl_bench.specs.inside.Pairs.{IsIndexed};
 ghost use Rattle.sbl_rows.specs.Rows.{rows_of};
 ghost use Rattle.sbl_rows.specs.Setting.{Setting};

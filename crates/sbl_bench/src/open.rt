@@ -8,7 +8,7 @@ ghost use Rattle.indexmap.specs.Entry.{entry_map};
 ghost use Rattle.sbl_bench.specs.Vocabulary.{is_word, vocabulary, with_word};
 ghost use Rattle.sbl_bench.specs.Contents.{opening_fault, word_fault, IsFaultOrMemory};
 ghost use Rattle.sbl_bench.specs.inside.ProofNames.{is_full};
-ghost use Rattle.sbl_bench.specs.KeptRuns.{words_in, IsKept};
+ghost use Rattle.sbl_bench.specs.inside.KeptEntries.{words_in, IsKept};
 ghost use Rattle.sbl_semantics.specs.Limit.{default_limit};
 ghost use Rattle.sbl_rows.specs.Setting.{under};
 

@@ -3,7 +3,7 @@
 //! anew when it is wanted next; so no edit fails for it.
 
 ghost use Rattle.std.specs.Prelude.{◌≡◌, List, Some, IfOk, OnOk};
-ghost use Rattle.sbl_bench.specs.KeptRuns.{KeptWord};
+ghost use Rattle.sbl_bench.specs.inside.KeptEntries.{KeptWord};
 ghost use Rattle.sbl_bench.specs.inside.Pairs.{ArePaired, IsIndexed, IsOneMore, find};
 ghost use Rattle.sbl_bench.specs.inside.Last.{Follows};
 

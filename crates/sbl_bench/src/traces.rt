@@ -4,7 +4,8 @@ ghost use Rattle.std.specs.Prelude.{◌≡◌, ◌≤◌, ◌<◌, ◌+◌, ◌^
 ghost use Rattle.sbl_ast.specs.Source.{Source};
 ghost use Rattle.sbl_machine.specs.MachineOf.{IsLinkedMachineOf};
 ghost use Rattle.sbl_bench.specs.Vocabulary.{is_word};
-ghost use Rattle.sbl_bench.specs.KeptRuns.{words_in, IsWord, IsKept};
+ghost use Rattle.sbl_bench.specs.KeptRuns.{IsWord};
+ghost use Rattle.sbl_bench.specs.inside.KeptEntries.{words_in, IsKept};
 ghost use Rattle.sbl_bench.specs.inside.Pairs.{IsOneMore, IsUnique, same_text};
 ghost use Rattle.sbl_rows.specs.Setting.{under};
 ghost use Rattle.sbl_bench.specs.inside.Stops.{IsStop};

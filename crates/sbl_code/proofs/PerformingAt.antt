@@ -16,7 +16,8 @@ use Rattle.sbl_program.specs.Actions.{acts, test_grouping}
 use Rattle.sbl_program.specs.Run.{runs, runs_paid, all_run}
 use Rattle.sbl_program.proofs.Turns.{turn_is}
 use Rattle.sbl_semantics.specs.Fitting.{read_as}
-use Rattle.sbl_semantics.specs.Moves.{match, next_is, touch_grouping}
+use Rattle.sbl_semantics.specs.Moves.{match, touch_grouping}
+use Rattle.sbl_semantics.specs.inside.MoveParts.{next_is}
 use Rattle.sbl_semantics.specs.Control.{pay_first}
 use Rattle.sbl_semantics.specs.Slices.{left_bracket}
 use Rattle.sbl_semantics.specs.State.{State, Ending, Signals, Stops, after, then_on, pay, at_place, at_difference, saved_cursor, put_back, ahead, move_cursor}

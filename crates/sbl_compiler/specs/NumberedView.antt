@@ -1,7 +1,8 @@
 -- The parts of the compiler's data without memory addresses.
 use Rattle.std.specs.Prelude.{◌≡◌, ℕ, false, List, length, map, drop}
 use Rattle.sbl_ast.specs.Tree as trees
-use Rattle.sbl_ast.specs.View.{RowView, view_expression, view_groups}
+use Rattle.sbl_ast.specs.View.{RowView, view_expression}
+use Rattle.sbl_ast.specs.inside.ViewParts.{view_groups}
 use Rattle.sbl_ast.specs.declared.mode.Mode.{Mode}
 use Rattle.sbl_ast.specs.declared.tree.Expression.{Expression}
 use Rattle.sbl_ast.specs.declared.tree.Group.{Group}

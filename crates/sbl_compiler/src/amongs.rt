@@ -2,7 +2,8 @@
 
 ghost use Rattle.std.specs.Prelude.{◌≡◌, ◌∷◌, ◌++◌, [], List, map, OnOk, IfOk};
 ghost use Rattle.sbl_ast.specs.Order.{view_in_mode};
-ghost use Rattle.sbl_ast.specs.View.{view_command, view_rows, view_row, view_others, view_among, view_groups, view_entry, view_name, view_plain};
+ghost use Rattle.sbl_ast.specs.View.{view_command, view_row, view_among, view_entry, view_plain};
+ghost use Rattle.sbl_ast.specs.inside.ViewParts.{view_rows, view_others, view_groups, view_name};
 ghost use Rattle.sbl_ast.specs.Tree as trees;
 ghost use Rattle.sbl_compiler.specs.NumberedAmongs as spec;
 ghost use Rattle.sbl_program.specs.FoundView.{texts};

@@ -1,7 +1,8 @@
 //! Compiles commands, with numbers for names.
 
 ghost use Rattle.std.specs.Prelude.{◌≡◌, List, map, OnOk, IfOk};
-ghost use Rattle.sbl_ast.specs.View.{view_argument, view_command, view_rows, view_row, view_others, view_among, view_groups, view_expression, view_literal};
+ghost use Rattle.sbl_ast.specs.View.{view_argument, view_command, view_row, view_among, view_expression, view_literal};
+ghost use Rattle.sbl_ast.specs.inside.ViewParts.{view_rows, view_others, view_groups};
 ghost use Rattle.sbl_ast.specs.Tree as trees;
 ghost use Rattle.sbl_compiler.specs.NumberedItems as spec;
 ghost use Rattle.sbl_compiler.specs.NumberedView.{expression_in, integer_in, joined_in, names_in, node_in, numbered_before, numbered_row, place_in};

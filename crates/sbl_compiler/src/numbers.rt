@@ -1,7 +1,8 @@
 //! Compiles strings and arithmetic expressions, with numbers for names.
 
 ghost use Rattle.std.specs.Prelude.{◌≡◌, map, IfOk};
-ghost use Rattle.sbl_ast.specs.View.{view_argument, view_expression, view_product, view_factor, view_scales, view_sums};
+ghost use Rattle.sbl_ast.specs.View.{view_argument, view_expression};
+ghost use Rattle.sbl_ast.specs.inside.ViewParts.{view_product, view_factor, view_scales, view_sums};
 ghost use Rattle.sbl_compiler.specs.NumberedNumbers as spec;
 ghost use Rattle.sbl_compiler.specs.NumberedView.{names_in};
 ghost use Rattle.sbl_program.specs.Chains.{all_sums, all_products};

@@ -1,7 +1,8 @@
 //! The position of a command among the amongs of a script.
 
 ghost use Rattle.std.specs.Prelude.{◌≡◌, List, length};
-ghost use Rattle.sbl_ast.specs.View.{view_command, view_rows, view_row, view_others, view_among, view_groups};
+ghost use Rattle.sbl_ast.specs.View.{view_command, view_row, view_among};
+ghost use Rattle.sbl_ast.specs.inside.ViewParts.{view_rows, view_others, view_groups};
 ghost use Rattle.sbl_ast.specs.Tree as trees;
 ghost use Rattle.sbl_compiler.specs.NumberedItems as spec;
 ghost use Rattle.sbl_compiler.specs.NumberedView.{view_place};

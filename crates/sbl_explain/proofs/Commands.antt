@@ -19,8 +19,10 @@ use Rattle.sbl_ast.specs.declared.mode.Mode.TheVariants.{Forward, Backward}
 use Rattle.sbl_semantics.specs.Fitting.{read_as}
 use Rattle.sbl_semantics.specs.Items.{DeclaredNames, Body, place_of}
 use Rattle.sbl_semantics.specs.declared.cursor.SavedCursor.{SavedCursor}
-use Rattle.sbl_semantics.specs.Events.{Event', Puts, with_event}
-use Rattle.sbl_semantics.specs.Moves.{match, next_is, one_of, next, hop, at_mark, to_mark, set_mark, set_boolean}
+use Rattle.sbl_semantics.specs.Events.{Event', Puts}
+use Rattle.sbl_semantics.specs.inside.EventParts.{with_event}
+use Rattle.sbl_semantics.specs.Moves.{match, one_of, next, hop, at_mark, to_mark, set_mark, set_boolean}
+use Rattle.sbl_semantics.specs.inside.MoveParts.{next_is}
 use Rattle.sbl_semantics.specs.Numbers.{Value, continue_with, natural, with_value, integer_at}
 use Rattle.sbl_semantics.specs.Slices.{is_slice, replace_slice, replace, keep, insert_string, put_in, left_bracket, right_bracket}
 use Rattle.sbl_semantics.specs.State.{State, Signals, Stops, Doing, ahead, room, at_place, at_difference, to_limit, put_back, step_over, place_after, move_cursor}

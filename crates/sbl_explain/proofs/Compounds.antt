@@ -13,7 +13,8 @@ use Rattle.sbl_semantics.specs.declared.cursor.SavedCursor.{SavedCursor}
 use Rattle.sbl_semantics.specs.declared.limits.Limits.{Limits}
 use Rattle.sbl_semantics.specs.Moves.{next}
 use Rattle.sbl_semantics.specs.Numbers.{Value, continue_with}
-use Rattle.sbl_semantics.specs.Control.{turns, times, count_of, seeks, end_search, limits, restore_limit, limit_here, limit_back, backwards_from, backwards_end, with_group, pay_first}
+use Rattle.sbl_semantics.specs.Control.{turns, times, count_of, seeks, limits, restore_limit, limit_here, limit_back, backwards_from, backwards_end, with_group, pay_first}
+use Rattle.sbl_semantics.specs.inside.ControlParts.{end_search}
 use Rattle.sbl_semantics.specs.Choices.{choice}
 use Rattle.sbl_semantics.specs.State.{State, Ending, Signals, Stops, Doing, after, then_on, saved_cursor, put_back}
 use Rattle.sbl_semantics.specs.Meaning.{prefixed_does, counted_does, joined_does, limited_does}

@@ -9,8 +9,10 @@ use Rattle.sbl_ast.specs.declared.mode.Mode.TheVariants.{Forward}
 use Rattle.sbl_semantics.specs.Fitting.{ahead_at}
 use Rattle.sbl_semantics.specs.Items.{DeclaredNames, Body, place_of, known_in, char_class_of, classes_after, body_named}
 use Rattle.sbl_semantics.specs.Regions.{Among, number_after, number_after_others, first_others, waits}
-use Rattle.sbl_semantics.specs.Events.{Event', Enters, Leaves, Searches, Finds, Puts, with_event}
-use Rattle.sbl_semantics.specs.Control.{end_search, back_in, enter, leave, pay_first}
+use Rattle.sbl_semantics.specs.Events.{Event', Enters, Leaves, Searches, Finds, Puts}
+use Rattle.sbl_semantics.specs.inside.EventParts.{with_event}
+use Rattle.sbl_semantics.specs.Control.{back_in, enter, leave, pay_first}
+use Rattle.sbl_semantics.specs.inside.ControlParts.{end_search}
 use Rattle.sbl_semantics.specs.State.{State, Ending, Signals, Stops, Doing, bound_of}
 use Rattle.sbl_semantics.specs.Meaning as meaning
 use Rattle.sbl_semantics.specs.inside.MeaningParts as parts

@@ -6,7 +6,8 @@ use Rattle.sbl_machine.specs.Why.{text_after, text_after_one}
 use Rattle.sbl_semantics.specs.Items.{Body, DeclaredNames}
 use Rattle.sbl_semantics.specs.declared.fault.RunFault.{RunFault}
 use Rattle.sbl_semantics.specs.declared.fault.RunFault.TheVariants as faults
-use Rattle.sbl_semantics.specs.Events.{Event', Enters, Leaves, Searches, Finds, Puts, with_event}
+use Rattle.sbl_semantics.specs.Events.{Event', Enters, Leaves, Searches, Finds, Puts}
+use Rattle.sbl_semantics.specs.inside.EventParts.{with_event}
 use Rattle.sbl_semantics.specs.Numbers.{Value, continue_with}
 use Rattle.sbl_semantics.specs.State.{State, Ending, Signals, Stops, Doing, bound_of}
 use Rattle.sbl_explain.specs.RoutineAmongs.{HasAmong}

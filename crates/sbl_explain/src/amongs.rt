@@ -3,7 +3,8 @@
 ghost use Rattle.std.specs.Prelude.{◌≡◌, ◌++◌, ◌∷◌, [], List, map, OnOk, IfOk};
 ghost use Rattle.sbl_tree_amongs.specs.Amongs.{amongs_of_body};
 ghost use Rattle.sbl_ast.specs.Tree as trees;
-ghost use Rattle.sbl_ast.specs.View.{view_among, view_command, view_entry, view_groups, view_others, view_row, view_rows};
+ghost use Rattle.sbl_ast.specs.View.{view_among, view_command, view_entry, view_row};
+ghost use Rattle.sbl_ast.specs.inside.ViewParts.{view_groups, view_others, view_rows};
 ghost use Rattle.sbl_explain.specs.Parts.{groups_held, string_of, strings_of};
 ghost use Rattle.sbl_explain.specs.GatheredGroups.{gathered_command, gathered_groups, gathered_others, gathered_rows};
 ghost use Rattle.sbl_explain.specs.UnusedViews.{texts_of, view_amongs};

@@ -5,7 +5,7 @@ use Rattle.std.proofs.lemmas.Slice.Eq.{bytes_eq-Decides}
 use Rattle.std.specs.Str.{bytes_eq, is_utf8}
 use Rattle.sbl_reports.specs.Block.{BlockLines, point}
 use Rattle.sbl_input.specs.Loading.{AllText}
-use Rattle.sbl_io.specs.HeldInput.{StandFirst}
+use Rattle.sbl_io.specs.inside.LineSteps.{StandFirst}
 use Rattle.sbl_io.specs.LinesOf.{AreWhole, without_carriage_return, max_line, onto_first, raw_lines}
 use Rattle.sbl_io.proofs.Bytes.{raw-feed, raw-other, raw-some}
 

@@ -12,9 +12,11 @@ use Rattle.sbl_script.specs.Reading.{IsFaultOf, IsScriptOf}
 use Rattle.sbl_text.specs.declared.fault.ScriptFault.{ScriptFault}
 use Rattle.sbl_text.specs.declared.fault.ScriptFault.TheVariants as script
 use Rattle.sbl_reports.specs.Block.{BlockLines, Breaks, made_text, max_script, point}
-use Rattle.sbl_io.specs.HeldInput.{BeginsLong, StandFirst, Took}
+use Rattle.sbl_io.specs.HeldInput.{BeginsLong, Took}
+use Rattle.sbl_io.specs.inside.LineSteps.{StandFirst}
 use Rattle.sbl_io.specs.LinesOf.{lines_of}
-use Rattle.sbl_input.specs.Loading.{IsInput, IsLoaded, TookFault, TookNoText, TookSource, TookWords, WordLines}
+use Rattle.sbl_input.specs.Loading.{IsInput, IsLoaded, TookFault, TookSource, TookWords, WordLines}
+use Rattle.sbl_input.specs.inside.LoadingParts.{TookNoText}
 use Rattle.sbl_input.specs.OneLoading.{IsToldByBytes, LoadingIsOne, RestIsOne}
 use Rattle.sbl_input.specs.declared.faults.LoadFault.{LoadFault}
 use Rattle.sbl_input.specs.declared.faults.LoadFault.TheVariants.{Input, Open, Script}

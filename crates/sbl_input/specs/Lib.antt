@@ -7,3 +7,4 @@ pub mod FileWords
 -- what the functions inside the crate promise each other: nothing in these need be believed
 pub mod WordLists
 pub mod VocabularyRows
+pub mod inside

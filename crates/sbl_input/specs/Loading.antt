@@ -99,13 +99,3 @@ HasReason tally lines new_lines f = f ≡ Input fault.Read → HasCause tally li
 -- each line is UTF-8
 abbrev pub AllText : List (List ℕ) → Type 0
 AllText lines = AllByRecursion (λ line. is_utf8 line ≡ true) lines
-
--- lines of words were taken, and one more that is not UTF-8
-abbrev pub TookNoText : Option (List ℕ) → Option (List ℕ) → Type 0
-TookNoText old new =
-    (done : List (List ℕ)) × (first : List ℕ) × WordLines done × (first ≢ point) × (length first ≤ max_line) × (is_utf8 first ≡ false)
-    × Took old new (done ++ first ∷ [])
-
--- some lines of words were taken
-abbrev pub TookSome : Option (List ℕ) → Option (List ℕ) → Type 0
-TookSome old new = (lines : List (List ℕ)) × BlockLines lines × Took old new lines

@@ -8,7 +8,8 @@ use Rattle.sbl_bench.specs.Contents.{opening_fault, word_fault}
 use Rattle.sbl_bench.specs.Vocabulary.{vocabulary}
 use Rattle.sbl_io.specs.declared.faults.ServeFault.TheVariants as fault
 use Rattle.sbl_reports.specs.Block.{Breaks}
-use Rattle.sbl_input.specs.Loading.{TookNoText, TookSome, TookWords, WordLines}
+use Rattle.sbl_input.specs.Loading.{TookWords, WordLines}
+use Rattle.sbl_input.specs.inside.LoadingParts.{TookNoText, TookSome}
 use Rattle.sbl_input.specs.declared.faults.LoadFault.{LoadFault}
 use Rattle.sbl_input.specs.declared.faults.LoadFault.TheVariants.{Input, Script, Open}
 use Rattle.sbl_input.specs.declared.word_list.KeptWords.{KeptWords}

@@ -3,7 +3,8 @@ use Rattle.std.proofs.Common.{subst, inl, inr, ◌⊎◌, Bool, true, length-app
 use Rattle.std.specs.Prelude.{slice_range}
 use Rattle.std.proofs.Math.Seq.{drop-cons}
 use Rattle.std.specs.Io.KnownBytes.{Consumes, Keeps, prepend_known}
-use Rattle.sbl_io.specs.HeldInput.{NoFeed, BeginsLong, GivesLine, StandFirst, TakesLine, Took, TookWhole}
+use Rattle.sbl_io.specs.HeldInput.{BeginsLong, GivesLine, Took, TookWhole}
+use Rattle.sbl_io.specs.inside.LineSteps.{NoFeed, StandFirst, TakesLine}
 use Rattle.sbl_io.specs.declared.lines.LineEnd.{LineEnd}
 use Rattle.sbl_io.specs.declared.lines.LineEnd.TheVariants.{Feed, Input, Beyond}
 use Rattle.sbl_io.specs.LinesOf.{AreWhole, without_carriage_return, lines_of, onto_first, raw_lines}

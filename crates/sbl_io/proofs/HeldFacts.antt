@@ -2,7 +2,8 @@
 use Rattle.std.proofs.Common.{◌≡◌, ◌⊎◌, inl, inr, ◌∙◌, ◌+◌, ◌-◌, ◌<◌, ◌≤◌, ◌==◌, true, false, ℕ, List, [], ◌∷◌, Option, Some, Result, Ok, length, take, drop, get_or, get_or-take, get_or-drop, take_all, refl, sym, subst}
 use Rattle.std.specs.Prelude.{slice_range}
 use Rattle.std.proofs.lemmas.Bool.{cases_lt, ne_eqb}
-use Rattle.sbl_io.specs.HeldInput.{NoFeed, has_feed}
+use Rattle.sbl_io.specs.HeldInput.{has_feed}
+use Rattle.sbl_io.specs.inside.LineSteps.{NoFeed}
 use Rattle.sbl_io.specs.declared.faults.LineFault.{LineFault}
 
 pub has_feed-none : (bytes : List ℕ) → NoFeed bytes → has_feed bytes ≡ false

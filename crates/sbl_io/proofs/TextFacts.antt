@@ -3,7 +3,7 @@ use Rattle.std.proofs.Common.{◌≡◌, ◌≢◌, ◌∙◌, ◌++◌, ◌+◌
 use Rattle.std.proofs.Math.Seq.{drop-cons}
 use Rattle.std.proofs.lemmas.List.{take-append-drop, take_more}
 use Rattle.std.proofs.lemmas.Grind.{common_steps}
-use Rattle.sbl_io.specs.HeldInput.{NoFeed}
+use Rattle.sbl_io.specs.inside.LineSteps.{NoFeed}
 use Rattle.sbl_io.specs.LinesOf.{without_carriage_return, lines_of, raw_lines}
 use Rattle.sbl_io.proofs.Bytes.{lines-feed, lines-last, no_feed_push, no_lines}
 

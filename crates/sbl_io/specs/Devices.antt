@@ -1,11 +1,7 @@
 -- The effect of a read and a write on a device: its bytes, if they are known, and its counts.
-use Rattle.std.specs.Prelude.{◌≡◌, ◌⊎◌, ◌<◌, ◌≤◌, ◌+◌, ◌-◌, ◌^◌, ◌==◌, ◌||◌, ◌&&◌, nat_le, nat_lt, min, ℕ, Bool, false, if◌then◌else◌}
+use Rattle.std.specs.Prelude.{◌≡◌, ◌⊎◌, ◌<◌, ◌≤◌, ◌+◌, ◌==◌, ◌||◌, ◌&&◌, nat_le, nat_lt, min, ℕ, Bool, false}
 use Rattle.std.specs.Prelude.{List, length, take, Option, Result, Ok, Err}
 use Rattle.std.specs.Io.KnownBytes.{Appends, Consumes, IsAtEnd, Keeps}
-use Rattle.std.specs.IoError.{error_kind}
-use Rattle.std.specs.declared.io.Error.{Error}
-use Rattle.std.specs.declared.io.ErrorKind.{ErrorKind}
-use Rattle.std.specs.declared.io.ErrorKind.TheVariants as kind
 use Rattle.sbl_io.specs.declared.devices.Stop.{Stop}
 use Rattle.sbl_io.specs.declared.devices.Stop.TheVariants.{Interrupted, Failed}
 
@@ -82,26 +78,6 @@ pub record IsUnused (tally : Tally) : Type 0 where
   pub none : tally.reads ≡ 0
 
 -- ---- errors of std
-
--- the stop for an error of this kind
-abbrev pub stop_of_kind : ErrorKind → Stop
-stop_of_kind kind.Interrupted = Interrupted
-stop_of_kind k = Failed
-
--- the same, but an interruption if the count of failures is full
-abbrev pub stop_of : ℕ → ErrorKind → Stop
-stop_of failures k = if failures == 2 ^ 64 - 1 then Interrupted else stop_of_kind k
-
--- the result of a read or a write of std, with its error converted
-abbrev pub IsConverted : ℕ → Result ℕ Error → Result ℕ Stop → Type 0
-IsConverted failures (Ok n) judged = judged ≡ Ok n
-IsConverted failures (Err e) judged = judged ≡ Err (stop_of failures (error_kind e))
-
--- the same for a write of these bytes; it failed if it took none of some bytes
-abbrev pub IsConvertedWrite : ℕ → List ℕ → Result ℕ Error → Result ℕ Stop → Type 0
-IsConvertedWrite failures bytes (Ok n) judged =
-    judged ≡ (if nat_lt 0 (length bytes) && (n == 0) then Err (stop_of failures kind.WriteZero) else Ok n)
-IsConvertedWrite failures bytes (Err e) judged = IsConverted failures (Err e) judged
 
 -- the writer has failed since, or it was interrupted more than 1,000 times in a row
 abbrev pub HasStopped : {W : Type 0} → (W → Tally) → W → W → Type 0

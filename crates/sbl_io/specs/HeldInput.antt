@@ -1,15 +1,13 @@
 -- The input that is left of a `Lines`: the bytes in its buffer, and then the bytes left in its reader.
 use Rattle.std.specs.Prelude.{◌≡◌, ◌≢◌, ◌⊎◌, ◌<◌, ◌≤◌, ◌+◌, ◌*◌, ◌-◌, ◌==◌, min, ℕ, Bool, true, false, if◌then◌else◌, ⊤, List, [], ◌∷◌, ◌++◌}
-use Rattle.std.specs.Prelude.{length, slice_range, Option, Some, None, Result, Err, IfErr, IfSome, MatchOption, OnOk}
+use Rattle.std.specs.Prelude.{length, slice_range, Option, Some, None, Result, Err, IfErr, IfSome, OnOk}
 use Rattle.std.specs.List.{AllByRecursion, list_any}
 use Rattle.std.specs.Option.{option_map}
-use Rattle.std.specs.Io.KnownBytes.{Consumes, IsAtEnd, Keeps, prepend_known}
+use Rattle.std.specs.Io.KnownBytes.{Consumes, prepend_known}
 use Rattle.sbl_io.specs.Devices.{Tally, max_count, max_tries}
 use Rattle.sbl_io.specs.Faults.{left_by}
 use Rattle.sbl_io.specs.LinesOf.{AreWhole, lines_of, max_line}
 use Rattle.sbl_io.specs.declared.lines.Lines.{Lines}
-use Rattle.sbl_io.specs.declared.lines.LineEnd.{LineEnd}
-use Rattle.sbl_io.specs.declared.lines.LineEnd.TheVariants.{Feed, Input, Beyond}
 use Rattle.sbl_io.specs.declared.faults.LineFault.{LineFault}
 use Rattle.sbl_io.specs.declared.faults.LineFault.TheVariants as read
 use Rattle.sbl_io.specs.declared.faults.ServeFault.{ServeFault}
@@ -87,10 +85,6 @@ module _ {R : Type 0} where
   abbrev pub KeepsTime : (R → Tally) → Lines R → Lines R → Type 0
   KeepsTime tally old new = InTime tally old → InTime tally new
 
-  -- if no read before was late and the last one was not interrupted, no read up to now is late
-  abbrev pub AsksInTime : (R → Tally) → Lines R → Lines R → Type 0
-  AsksInTime tally old new = AreAsked tally old → (tally old.reader).interruptions ≡ 0 → AreAsked tally new
-
   -- a fault `Read` is caused by the reader or a limit, or the lines return an earlier fault again
   abbrev pub HasReason : (R → Tally) → Lines R → Lines R → ServeFault → Type 0
   HasReason tally lines new_lines f = f ≡ serve.Read → HasCause tally lines new_lines ⊎ (fault_of lines ≡ Some read.Read)
@@ -108,12 +102,6 @@ module _ {R : Type 0} where
     pub bound : reads_bound tally new ≡ reads_bound tally old
     pub why : IfErr result (λ fault. HasReason tally old new fault)
     pub in_time : KeepsTime tally old new
-
--- the line was taken; the last argument says how it ended
-abbrev pub TakesLine : Option (List ℕ) → Option (List ℕ) → List ℕ → LineEnd → Type 0
-TakesLine old new line Feed = Consumes old new (line ++ 10 ∷ [])
-TakesLine old new line Input = Consumes old new line × IsAtEnd new
-TakesLine old new line Beyond = (length line ≡ max_line + 1) × (b : ℕ) × (b ≢ 10) × Consumes old new (line ++ b ∷ [])
 
 -- reading failed inside a line: a part of it was taken, without a line feed
 abbrev pub BreaksOff : Option (List ℕ) → Option (List ℕ) → List ℕ → Type 0
@@ -138,17 +126,3 @@ AllFit lines = AllByRecursion (λ line. length line ≤ max_line) lines
 -- the first line has too many bytes, without its line end
 abbrev pub BeginsLong : Option (List ℕ) → Type 0
 BeginsLong left = IfSome left (λ bytes. (line : List ℕ) × (rest : List (List ℕ)) × (lines_of bytes ≡ line ∷ rest) × (max_line < length line))
-
--- ---- names for proofs
-
--- the next byte was taken, or the input was and is at its end
-abbrev pub TakesByte : Option (List ℕ) → Option (List ℕ) → Option ℕ → Type 0
-TakesByte old new byte = MatchOption byte (IsAtEnd new × Keeps old new) (λ b. Consumes old new (b ∷ []))
-
--- no byte is a line feed
-abbrev pub NoFeed : List ℕ → Type 0
-NoFeed bytes = AllByRecursion (λ b. b ≢ 10) bytes
-
--- these are the lines of a prefix of the bytes, and the rest follows
-abbrev pub StandFirst : List ℕ → List (List ℕ) → List ℕ → Type 0
-StandFirst bytes lines rest = Took (Some bytes) (Some rest) lines

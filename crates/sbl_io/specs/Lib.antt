@@ -7,3 +7,5 @@ pub mod HeldInput
 pub mod Records
 pub mod RecordsWritten
 pub mod Reports
+-- what the functions inside the crate promise each other; no public contract depends on these
+pub mod inside

@@ -1,7 +1,8 @@
 //! Readers and writers that may fail or be interrupted. Failures, interruptions and reads are counted.
 ghost use Rattle.std.specs.Prelude.{◌≡◌, ◌≤◌, ◌<◌, ◌^◌, ◌-◌, ◌||◌, ℕ, Bool, false, List, Option, length, IfOk, Err};
 ghost use Rattle.std.specs.Io.KnownBytes.{Keeps};
-ghost use Rattle.sbl_io.specs.Devices.{Tally, Reads, Writes, Counts, CountsRead, CountsRow, IsConverted, IsConvertedWrite, is_late_read, is_late_write, max_count, max_tries, tells_end};
+ghost use Rattle.sbl_io.specs.Devices.{Tally, Reads, Writes, Counts, CountsRead, CountsRow, is_late_read, is_late_write, max_count, max_tries, tells_end};
+ghost use Rattle.sbl_io.specs.inside.Conversions.{IsConverted, IsConvertedWrite};
 
 use std::io;
 use std::io::{ErrorKind, Read, Write};

@@ -49,7 +49,8 @@ pub struct Lines<R> {
 
 impl<R: Source + Drop> Lines<R> {
     ghost use Rattle.sbl_io.specs.Devices.{IsUnused, max_count};
-    ghost use Rattle.sbl_io.specs.HeldInput.{fuel_of, has_feed, held_of, line_of, fault_of, input_of, max_reads, reads_bound, AsksInTime, BeginsLong, BreaksOff, HasCause, HoldsLine, InTime, IsDrained, KeepsTime, StaysEnded, TakesFeeds, TakesByte, TakesLine, NoFeed, GivesLine};
+    ghost use Rattle.sbl_io.specs.HeldInput.{fuel_of, has_feed, held_of, line_of, fault_of, input_of, max_reads, reads_bound, BeginsLong, BreaksOff, HasCause, HoldsLine, InTime, IsDrained, KeepsTime, StaysEnded, TakesFeeds, GivesLine};
+    ghost use Rattle.sbl_io.specs.inside.LineSteps.{AsksInTime, TakesByte, TakesLine, NoFeed};
 
     /// Returns the lines of `reader`, which is read at most 1,099,511,627,776 times. Allocates all buffers. Returns
     /// `AllocError` if an allocation fails.

@@ -1,6 +1,6 @@
 //! The lines of a text in memory.
 ghost use Rattle.std.specs.Prelude.{◌≡◌, ◌≤◌, ◌<◌, MatchOption, [], ◌∷◌, length, take, slice_index};
-ghost use Rattle.sbl_io.specs.HeldInput.{NoFeed};
+ghost use Rattle.sbl_io.specs.inside.LineSteps.{NoFeed};
 ghost use Rattle.sbl_io.specs.LinesOf.{without_carriage_return, lines_of};
 
 /// Returns the index of the first line feed, or the number of bytes if there is none.

@@ -10,7 +10,8 @@ use Rattle.sbl_semantics.specs.declared.touch.Touch.TheVariants.{Searched}
 use Rattle.sbl_semantics.specs.Meaning.{Offer, takes, try_each}
 use Rattle.sbl_semantics.specs.inside.MeaningParts.{offering, condition_does, begins}
 use Rattle.sbl_semantics.specs.Control.{with_group, pay_first}
-use Rattle.sbl_semantics.specs.Choices.{choose, choice, touch_among}
+use Rattle.sbl_semantics.specs.Choices.{choice, touch_among}
+use Rattle.sbl_semantics.specs.inside.ChoiceParts.{choose}
 use Rattle.sbl_semantics.specs.Events.{Event', Finds}
 use Rattle.sbl_semantics.specs.State.{note_event, State, bound_of, Ending, Signals, Doing, after, then_on, pay, saved_cursor, put_back, place_after, step_over}
 use Rattle.sbl_machine.proofs.Touching.{with_chosen, with_grows, not_then}

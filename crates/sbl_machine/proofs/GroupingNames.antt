@@ -14,7 +14,8 @@ use Rattle.sbl_resolver.specs.declared.occurrences.Site.{Site}
 use Rattle.sbl_resolver.specs.declared.occurrences.Use.TheVariants as use_as
 use Rattle.sbl_resolver.specs.Occurrences.{Occurrence, put, uses, defines_routine, defines_grouping, noted_plain, noted_items, occurrences_of, noted_name}
 use Rattle.sbl_resolver.specs.OccurrenceView.{noted_terms}
-use Rattle.sbl_resolver.specs.Checks.{kind_of, defined_at, definition_of, is_some_and, is_routine, is_grouping, is_earlier}
+use Rattle.sbl_resolver.specs.Checks.{kind_of, defined_at, definition_of, is_routine, is_grouping, is_earlier}
+use Rattle.sbl_resolver.specs.inside.CheckParts.{is_some_and}
 use Rattle.sbl_resolver.proofs.Extends.{Extends, then_, items_more, put_more}
 use Rattle.sbl_semantics.specs.Items.{known_in, names_by, is_member}
 use Rattle.sbl_machine.proofs.Noticed.{look, look_kept, kinds_at, site_is, sites_quiet, routine_still, grouping_still}

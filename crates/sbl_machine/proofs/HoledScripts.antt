@@ -6,7 +6,8 @@ use Rattle.std.specs.Str.{bytes_eq}
 use Rattle.std.proofs.lemmas.Slice.Eq.{bytes_eq-Decides}
 use Rattle.std.proofs.lemmas.Bool.{true≢false}
 use Rattle.std.proofs.Math.Path.{fun_ext}
-use Rattle.sbl_ast.specs.Order.{ItemInMode, in_mode, in_order}
+use Rattle.sbl_ast.specs.Order.{ItemInMode, in_order}
+use Rattle.sbl_ast.specs.inside.OrderParts.{in_mode}
 use Rattle.sbl_ast.specs.declared.tree.DeclarationKind.{DeclarationKind}
 use Rattle.sbl_ast.specs.declared.tree.DeclarationKind.TheVariants as kinds
 use Rattle.sbl_ast.specs.Tree.{Command, Others, Argument, written_out, Term, Plain, Item, bracket, no_rows, no_others, declaration, escapes, macro, routine, grouping, plain, backward}

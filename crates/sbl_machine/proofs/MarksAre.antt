@@ -16,7 +16,8 @@ use Rattle.sbl_semantics.specs.declared.touch.Touch.TheVariants.{Entered, Search
 use Rattle.sbl_semantics.specs.Touches.{same_touch, with_touch}
 use Rattle.sbl_ast.specs.Source.{Source}
 use Rattle.sbl_script.specs.SpelledScript.{AreSpelled}
-use Rattle.sbl_machine.specs.BuiltFrom.{is_affected_by, affected_by, built_after}
+use Rattle.sbl_machine.specs.BuiltFrom.{is_affected_by, affected_by}
+use Rattle.sbl_machine.specs.inside.BuiltFromParts.{built_after}
 use Rattle.sbl_machine.specs.Marking.{amongs_after, amongs_in, groupings_after, with_names, marks_of, routines_after, with_searches, searches}
 use Rattle.sbl_machine.specs.Marks.{AreMarksOf, has_item}
 use Rattle.sbl_semantics.specs.TouchedItems.{Item', Routine, Among, Grouping, item_of_touch, names_of}

@@ -16,7 +16,8 @@ use Rattle.sbl_resolver.specs.declared.occurrences.Use.{Use}
 use Rattle.sbl_resolver.specs.declared.occurrences.Use.TheVariants as use_as
 use Rattle.sbl_resolver.specs.Occurrences.{Occurrence, Notice, put, uses, region_end, declares, defines_routine, defines_grouping, noted_command, noted_others, noted_plain, noted_items, occurrences_of, noted_name}
 use Rattle.sbl_resolver.specs.OccurrenceView.{noted_names, noted_terms}
-use Rattle.sbl_resolver.specs.Checks.{kind_of, defined_at, definition_of, may_be, is_some_and, is_kind, is_routine, is_grouping, is_mode, needs_definition, fault_at}
+use Rattle.sbl_resolver.specs.Checks.{kind_of, defined_at, definition_of, may_be, is_kind, is_routine, is_grouping, is_mode, needs_definition, fault_at}
+use Rattle.sbl_resolver.specs.inside.CheckParts.{is_some_and}
 use Rattle.sbl_resolver.specs.Laws.{EachPasses, NamesResolve, Resolves, WellDeclaredPasses}
 use Rattle.sbl_resolver.proofs.Extends.{Extends, same, then_, items_more, put_more, command_more, others_more}
 use Rattle.sbl_semantics.specs.Items.{Body, body_named, is_member, known_in, names_by}

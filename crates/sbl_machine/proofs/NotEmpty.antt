@@ -11,10 +11,12 @@ use Rattle.sbl_text.specs.declared.pieces.Shape.{Shape}
 use Rattle.sbl_text.specs.declared.pieces.Shape.TheVariants as shape
 use Rattle.sbl_text.specs.Directives.{Directives, after, start}
 use Rattle.sbl_text.specs.SpacedTokens.{IsSaid, IsSaidBy, AreSaid}
-use Rattle.sbl_text.specs.Tokens.{word_or_name}
+use Rattle.sbl_text.specs.inside.TokenParts.{word_or_name}
 use Rattle.sbl_ast.proofs.After.{IsBefore, plain_before}
-use Rattle.sbl_ast.specs.Order.{ItemInMode, in_mode, in_order}
-use Rattle.sbl_ast.specs.Places.{AtDepth, placed_items, placed_plain, placed_plains, places, tokens}
+use Rattle.sbl_ast.specs.Order.{ItemInMode, in_order}
+use Rattle.sbl_ast.specs.inside.OrderParts.{in_mode}
+use Rattle.sbl_ast.specs.Places.{AtDepth, placed_plain, places, tokens}
+use Rattle.sbl_ast.specs.inside.PlaceParts.{placed_items, placed_plains}
 use Rattle.sbl_token.specs.Lexemes as lex
 use Rattle.sbl_token.specs.declared.signs.Sign.TheVariants as signs
 use Rattle.sbl_ast.specs.Tree.{Plain, declaration, escapes, macro, routine, grouping, Item, plain, backward}

@@ -35,11 +35,15 @@ use Rattle.sbl_semantics.specs.declared.limits.Limits.{Limits}
 use Rattle.sbl_semantics.specs.declared.touch.Touch.{Touch}
 use Rattle.sbl_semantics.specs.declared.touch.Touch.TheVariants.{Entered, Searched, Tested}
 use Rattle.sbl_semantics.specs.Touches.{same_touch, with_touch}
-use Rattle.sbl_semantics.specs.Events.{Event', Enters, Leaves, Searches, Finds, Puts, with_event}
-use Rattle.sbl_semantics.specs.Moves.{match, next_is, one_of, touch_grouping, next, hop, at_mark, to_mark}
+use Rattle.sbl_semantics.specs.Events.{Event', Enters, Leaves, Searches, Finds, Puts}
+use Rattle.sbl_semantics.specs.inside.EventParts.{with_event}
+use Rattle.sbl_semantics.specs.Moves.{match, one_of, touch_grouping, next, hop, at_mark, to_mark}
+use Rattle.sbl_semantics.specs.inside.MoveParts.{next_is}
 use Rattle.sbl_semantics.specs.Numbers.{Value, continue_with, natural, with_value, integer_at}
-use Rattle.sbl_semantics.specs.Control.{turns, times, count_of, seeks, end_search, limits, restore_limit, limit_here, limit_back, backwards_from, backwards_end, with_group, back_in, enter, leave, pay_first}
-use Rattle.sbl_semantics.specs.Choices.{choice, choose, take_none, take_string, touch_among}
+use Rattle.sbl_semantics.specs.Control.{turns, times, count_of, seeks, limits, restore_limit, limit_here, limit_back, backwards_from, backwards_end, with_group, back_in, enter, leave, pay_first}
+use Rattle.sbl_semantics.specs.inside.ControlParts.{end_search}
+use Rattle.sbl_semantics.specs.Choices.{choice, take_none, take_string, touch_among}
+use Rattle.sbl_semantics.specs.inside.ChoiceParts.{choose}
 use Rattle.sbl_semantics.specs.Slices.{is_slice, replace_slice, replace, keep, insert_string, put_in}
 use Rattle.sbl_semantics.specs.State.{State, Ending, Signals, Stops, Doing, bound_of, ahead, room, after, then_on, pay, at_place, at_difference, to_limit, saved_cursor, put_back, step_over, place_after, note_event}
 use Rattle.sbl_semantics.specs.Meaning as meaning

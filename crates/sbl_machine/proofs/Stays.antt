@@ -19,9 +19,11 @@ use Rattle.sbl_semantics.specs.declared.cursor.SavedCursor.{SavedCursor}
 use Rattle.sbl_semantics.specs.declared.limits.Limits.{Limits}
 use Rattle.sbl_semantics.specs.declared.touch.Touch.{Touch}
 use Rattle.sbl_semantics.specs.Meaning.{moved_does, assigned_does, assigned_value, compared_does, named_does, edited_does}
-use Rattle.sbl_semantics.specs.Moves.{match, next_is, one_of, next, hop, at_mark, to_mark}
+use Rattle.sbl_semantics.specs.Moves.{match, one_of, next, hop, at_mark, to_mark}
+use Rattle.sbl_semantics.specs.inside.MoveParts.{next_is}
 use Rattle.sbl_semantics.specs.Numbers.{Value, with_value, integer_at, natural, continue_with}
-use Rattle.sbl_semantics.specs.Control.{end_search, limit_here, limit_back}
+use Rattle.sbl_semantics.specs.Control.{limit_here, limit_back}
+use Rattle.sbl_semantics.specs.inside.ControlParts.{end_search}
 use Rattle.sbl_semantics.specs.Slices.{is_slice, left_bracket, right_bracket, replace, keep, put_in, insert, attach}
 use Rattle.sbl_semantics.specs.State.{State, Ending, Signals, Stops, pay, ahead, room, move_cursor, at_place, at_difference, to_limit, put_back, step_over}
 

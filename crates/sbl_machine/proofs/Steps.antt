@@ -6,7 +6,8 @@ use Rattle.sbl_semantics.specs.declared.fault.RunFault.TheVariants as faults
 use Rattle.sbl_semantics.specs.declared.cursor.SavedCursor.{SavedCursor}
 use Rattle.sbl_semantics.specs.Moves.{next}
 use Rattle.sbl_semantics.specs.Numbers.{Value, continue_with}
-use Rattle.sbl_semantics.specs.Control.{turns, times, seeks, end_search, pay_first}
+use Rattle.sbl_semantics.specs.Control.{turns, times, seeks, pay_first}
+use Rattle.sbl_semantics.specs.inside.ControlParts.{end_search}
 use Rattle.sbl_semantics.specs.State.{State, Ending, Signals, Stops, Doing, after, then_on, pay, at_place, at_difference, to_limit, room, saved_cursor, put_back, step_over, place_after}
 use Rattle.sbl_ast.specs.declared.mode.Mode.{Mode}
 use Rattle.sbl_ast.specs.declared.mode.Mode.TheVariants.{Forward, Backward}

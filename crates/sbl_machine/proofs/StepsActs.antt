@@ -30,7 +30,8 @@ use Rattle.sbl_semantics.specs.Meaning as meaning
 use Rattle.sbl_semantics.specs.inside.MeaningParts as parts
 use Rattle.sbl_semantics.specs.Meaning.{Offer, prefixed_does, counted_does, joined_does, limited_does, simple_does, moved_does, assigned_does, compared_does, named_does, edited_does, takes, try_each, search}
 use Rattle.sbl_semantics.specs.inside.MeaningParts.{begins}
-use Rattle.sbl_semantics.specs.Moves.{match, next_is, one_of, hop, at_mark, to_mark}
+use Rattle.sbl_semantics.specs.Moves.{match, one_of, hop, at_mark, to_mark}
+use Rattle.sbl_semantics.specs.inside.MoveParts.{next_is}
 use Rattle.sbl_semantics.specs.Numbers.{Value, value_in_range, natural, with_value, integer_at}
 use Rattle.sbl_semantics.specs.Control.{turns, times, count_of, limits, restore_limit, limit_here, limit_back, backwards_from, backwards_end, with_group, pay_first}
 use Rattle.sbl_semantics.specs.Choices.{take_string, touch_among}

@@ -15,7 +15,8 @@ use Rattle.sbl_semantics.specs.Regions.{mode_under}
 use Rattle.sbl_resolver.specs.Amongs.{text_of, texts_of, IsSound, EachAmong, EachAmongOfRows, EachAmongOfOthers, EachAmongOfStarter, EachAmongOfGroups, EachAmongOfPlain, EachAmongOfPlains, EachAmongOfItems, AmongsAreSound}
 use Rattle.sbl_semantics.specs.Fitting.{fitting, read_all}
 use Rattle.sbl_program.specs.Laws.{AllDiffer, FittingAreMatches, Matches, StandsIn}
-use Rattle.sbl_ast.specs.Order.{ItemInMode, in_mode, in_order}
+use Rattle.sbl_ast.specs.Order.{ItemInMode, in_order}
+use Rattle.sbl_ast.specs.inside.OrderParts.{in_mode}
 use Rattle.sbl_ast.specs.Tree as trees
 use Rattle.sbl_ast.specs.Tree.{bracket, simple_, literal_, name_, non_, prefixed, counted, move_, named, splice_, setlimit_, assign_, compare_, compare_values_, among_, no_rows, row, no_others, joined, no_starter, starter, bare, group, declaration, escapes, macro, routine, grouping, plain, backward}
 use Rattle.sbl_ast.specs.declared.mode.Mode.{Mode}

@@ -2,7 +2,7 @@
 use Rattle.std.specs.Prelude.{◌≡◌, ℕ, Bool, true, false, ◌||◌, List, [], ◌∷◌, ◌++◌, map, if◌then◌else◌, ⊤}
 use Rattle.std.specs.List.{AllByRecursion, fold, list_any}
 use Rattle.sbl_ast.specs.declared.tree.Additive.TheVariants.{Plus}
-use Rattle.sbl_ast.specs.Order.{ItemInMode, in_order}
+use Rattle.sbl_ast.specs.Order.{in_order}
 use Rattle.sbl_ast.specs.Tree.{Argument, written_out, by_name, Term, term, Plain, grouping}
 use Rattle.sbl_semantics.specs.Items.{is_member}
 use Rattle.sbl_resolver.specs.Checks.{WellDeclared}
@@ -63,13 +63,6 @@ abbrev pub AffectedIsClosed : Type 0
 AffectedIsClosed = (s : Source) → WellDeclared s.items s.external → (x : Item') → IsClosed (is_affected_by s x) s
 
 -- ---- names for parts of these definitions, which only the functions inside the crate and proofs use
-
--- whether the first term or one of the others names a chosen grouping
-abbrev pub built_on : (List ℕ → Bool) → Argument → List Term → Bool
-built_on chosen a ts = any_names chosen (term Plus a ∷ ts)
-
-abbrev pub built_after : List ItemInMode → List (List ℕ) → List (List ℕ)
-built_after xs ns = fold (λ ns x. and_built x.plain ns) ns xs
 
 -- whether an edit of one of these items affects another
 abbrev pub affected_by : Source → List Item' → Item' → Bool

@@ -17,3 +17,4 @@ pub mod ItemRefs
 -- what the functions inside the crate promise each other: nothing in these need be believed
 pub mod AmongList
 pub mod Marking
+pub mod inside

@@ -6,6 +6,7 @@ ghost use Rattle.sbl_semantics.specs.Items.{is_member};
 ghost use Rattle.sbl_ast.specs.Order.{in_order};
 ghost use Rattle.sbl_ast.specs.View.{view_argument, view_items, view_plain, view_term};
 ghost use Rattle.sbl_machine.specs.BuiltFrom as spec;
+ghost use Rattle.sbl_machine.specs.inside.BuiltFromParts as parts;
 
 use sbl_ast::{Argument, Plain, ScriptItem, Term, items_in_order};
 use sbl_compiler::NameList;
@@ -56,7 +57,7 @@ pub fn built_from(
     items: &[ScriptItem],
     groupings: NameList,
 ) -> Result<NameList, AllocError>
-    ensures { IfOk result (λ names. names ≡ spec.built_after (in_order (view_items items.now)) groupings) }
+    ensures { IfOk result (λ names. names ≡ parts.built_after (in_order (view_items items.now)) groupings) }
 {
     let mut names = groupings;
     let in_order = items_in_order(alloc, items)?;

@@ -6,7 +6,8 @@ ghost use Rattle.sbl_parser.specs.Roles.{role_of};
 ghost use Rattle.sbl_parser.specs.Steps as wanted;
 ghost use Rattle.sbl_ast.specs.Places.{max_depth};
 ghost use Rattle.sbl_ast.specs.Spelled.{spelled_expression, spelled_product, spelled_factor};
-ghost use Rattle.sbl_ast.specs.View.{view_expression, view_product, view_factor};
+ghost use Rattle.sbl_ast.specs.View.{view_expression};
+ghost use Rattle.sbl_ast.specs.inside.ViewParts.{view_product, view_factor};
 ghost use Rattle.sbl_parser.specs.Gives.{ahead, Reads};
 
 use crate::cursor::{Cursor, Delimiter, chain};

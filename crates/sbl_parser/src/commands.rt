@@ -7,7 +7,8 @@ ghost use Rattle.sbl_parser.specs.Steps as wanted;
 ghost use Rattle.sbl_ast.specs.Places.{max_depth};
 ghost use Rattle.sbl_ast.specs.Tree.{among_};
 ghost use Rattle.sbl_ast.specs.Spelled.{spelled_command, spelled_rows, spelled_others, spelled_starter, spelled_groups};
-ghost use Rattle.sbl_ast.specs.View.{view_among, view_command, view_rows, view_row, view_starter, view_groups, view_entry};
+ghost use Rattle.sbl_ast.specs.View.{view_among, view_command, view_row, view_entry};
+ghost use Rattle.sbl_ast.specs.inside.ViewParts.{view_rows, view_starter, view_groups};
 ghost use Rattle.sbl_parser.specs.Gives.{ahead, Reads};
 ghost use Rattle.std.specs.Prelude.{map};
 

@@ -5,7 +5,8 @@ ghost use Rattle.sbl_parser.specs.Roles.{role_of};
 ghost use Rattle.sbl_parser.specs.Steps as wanted;
 ghost use Rattle.sbl_ast.specs.Places.{max_depth};
 ghost use Rattle.sbl_ast.specs.Spelled.{spelled_condition, spelled_entry, spelled_entries};
-ghost use Rattle.sbl_ast.specs.View.{view_name, view_entry};
+ghost use Rattle.sbl_ast.specs.View.{view_entry};
+ghost use Rattle.sbl_ast.specs.inside.ViewParts.{view_name};
 ghost use Rattle.sbl_parser.specs.Gives.{ahead, Reads};
 
 use crate::cursor::Cursor;

@@ -11,7 +11,8 @@ use Rattle.sbl_token.specs.declared.signs.Sign.TheVariants as signs
 use Rattle.sbl_text.specs.SpacedTokens.{SpacedToken, are_white, lexeme_text, lexemes_of, spaced_text}
 use Rattle.sbl_ast.specs.Tree.{Plain, declaration, escapes, macro, routine, grouping, Item, plain, backward}
 use Rattle.sbl_ast.specs.Places as places
-use Rattle.sbl_ast.specs.Places.{AtDepth, placed_item, placed_items, placed_plain, placed_plains, tokens}
+use Rattle.sbl_ast.specs.Places.{AtDepth, placed_item, placed_plain, tokens}
+use Rattle.sbl_ast.specs.inside.PlaceParts.{placed_items, placed_plains}
 use Rattle.sbl_ast.proofs.After.{plain_before}
 use Rattle.sbl_print.specs.Canonical.{space, line_feed, line, plain_text, item_text, canonical}
 use Rattle.sbl_print.specs.SpacedItems.{IsSpaced}

@@ -7,7 +7,7 @@ use Rattle.sbl_ast.specs.Spelled.{spelled_entries, spelled_expression, spelled_g
 use Rattle.sbl_ast.specs.Terminal.{Terminal, lexeme_as}
 use Rattle.sbl_ast.specs.Terminal as t
 use Rattle.sbl_ast.specs.Tree as trees
-use Rattle.sbl_ast.specs.View.{view_groups}
+use Rattle.sbl_ast.specs.inside.ViewParts.{view_groups}
 use Rattle.sbl_ast.specs.declared.tree.Group.{Group}
 use Rattle.sbl_print.specs.Canonical.{space}
 

@@ -2,7 +2,8 @@
 
 ghost use Rattle.std.specs.Prelude.{OnOk, string_bytes};
 ghost use Rattle.sbl_ast.specs.Spelled.{spelled_expression, spelled_factor, spelled_product, spelled_scales, spelled_sums};
-ghost use Rattle.sbl_ast.specs.View.{view_expression, view_factor, view_product, view_scales, view_sums};
+ghost use Rattle.sbl_ast.specs.View.{view_expression};
+ghost use Rattle.sbl_ast.specs.inside.ViewParts.{view_factor, view_product, view_scales, view_sums};
 ghost use Rattle.sbl_print.specs.Adding.{Adds};
 
 use crate::tokens::{put, put_argument, put_name, put_number, put_operations, put_sign, put_word};

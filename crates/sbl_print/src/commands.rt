@@ -5,7 +5,8 @@ ghost use Rattle.sbl_ast.specs.Terminal.{Terminal};
 ghost use Rattle.sbl_ast.specs.Terminal as t;
 ghost use Rattle.sbl_ast.specs.Spelled.{spelled_command, spelled_entries, spelled_entry, spelled_groups, spelled_others, spelled_rows, spelled_starter};
 ghost use Rattle.sbl_ast.specs.Tree as trees;
-ghost use Rattle.sbl_ast.specs.View.{view_among, view_argument, view_command, view_entry, view_expression, view_others, view_row, view_rows};
+ghost use Rattle.sbl_ast.specs.View.{view_among, view_argument, view_command, view_entry, view_expression, view_row};
+ghost use Rattle.sbl_ast.specs.inside.ViewParts.{view_others, view_rows};
 ghost use Rattle.sbl_print.specs.Adding.{Adds, AddsGroups, spelled_dollar, token_text};
 
 use crate::arithmetic::put_expression;

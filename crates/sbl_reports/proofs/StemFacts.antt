@@ -7,7 +7,7 @@ use Rattle.std.specs.Char.{encode_utf8}
 use Rattle.std.proofs.lemmas.Bool.{and_parts, or_parts}
 use Rattle.std.proofs.lemmas.List.{append-nil, append_assoc, get_or-append_right, length-append, length-map}
 use Rattle.std.proofs.lemmas.Str.{IsUtf8-from_is_utf8, NoCharPasses-byte, chars-encodes, inside_one, is_utf8-from_IsUtf8, length-encode, length-le-encodes}
-use Rattle.sbl_io.specs.HeldInput.{NoFeed}
+use Rattle.sbl_io.specs.inside.LineSteps.{NoFeed}
 use Rattle.sbl_io.specs.LinesOf.{lines_of, without_carriage_return}
 use Rattle.sbl_io.proofs.Bytes.{lines-feed, no_lines}
 use Rattle.sbl_rows.specs.Changes.{changes_of}

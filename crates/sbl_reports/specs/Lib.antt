@@ -12,3 +12,4 @@ pub mod StemLinesAreRead
 pub mod WordLists
 -- what the functions inside the crate promise each other: nothing in these need be believed
 pub mod FamilyReader
+pub mod inside

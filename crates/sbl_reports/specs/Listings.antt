@@ -3,8 +3,7 @@ use Rattle.std.specs.Prelude.{ℕ, List, [], ◌∷◌, map, Option}
 use Rattle.std.specs.List.{find}
 use Rattle.std.specs.Option.{option_map, option_map_or}
 use Rattle.std.specs.Str.{bytes_eq}
-use Rattle.sbl_rows.specs.Classes.{class_of, class_with, classes_of, stem_of}
-use Rattle.sbl_rows.specs.Rows.{Row}
+use Rattle.sbl_rows.specs.Classes.{class_with, classes_of, stem_of}
 use Rattle.sbl_bench.specs.Contents.{Contents, rows_now}
 use Rattle.sbl_bench.specs.Traces.{trace_of}
 use Rattle.sbl_io.specs.Records.{records_text}
@@ -28,9 +27,3 @@ class_text s word =
 -- a row for each item that a fresh run of the word touches; none if the word is not in the vocabulary
 unfoldable pub trace_text : Contents → List ℕ → Option (List ℕ)
 trace_text s word = option_map (λ items. records_text (map item_fields items)) (trace_of s.setting s.words word)
-
--- ---- names for proofs
-
--- the record of a word's class, or of its row if its run is refused and it has no class
-abbrev pub class_or_row_text : Contents → List ℕ → Row → List ℕ
-class_or_row_text s word row = records_text (option_map_or class_fields (class_of (rows_now s) word) (row_fields row) ∷ [])

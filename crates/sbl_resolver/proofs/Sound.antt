@@ -9,14 +9,16 @@ use Rattle.std.proofs.lemmas.Map.Keys.{IsDistinct-push}
 use Rattle.sbl_text.specs.declared.fault.ScriptFault.{ScriptFault}
 use Rattle.sbl_text.specs.declared.fault.ScriptFault.TheVariants as fault
 use Rattle.sbl_ast.specs.Tree.{Entry, entry, Command, bracket, simple_, literal_, name_, non_, prefixed, counted, move_, named, splice_, setlimit_, assign_, compare_, compare_values_, among_, Rows, no_rows, row, Others, no_others, joined, Starter, no_starter, starter, Groups, bare, group, Plain, declaration, escapes, macro, routine, grouping, Item, plain, backward}
-use Rattle.sbl_ast.specs.Order.{ItemInMode, in_mode, in_order}
+use Rattle.sbl_ast.specs.Order.{ItemInMode, in_order}
+use Rattle.sbl_ast.specs.inside.OrderParts.{in_mode}
 use Rattle.sbl_ast.specs.declared.mode.Mode.{Mode}
 use Rattle.sbl_ast.specs.declared.mode.Mode.TheVariants.{Backward}
 use Rattle.sbl_resolver.specs.declared.occurrences.Site.{Site}
 use Rattle.sbl_resolver.specs.Occurrences.{Occurrence, put, among, string, region_end, defines_routine, amongs_in, noted_expression, noted_entry, noted_entries, is_empty, noted_command, noted_rows, noted_others, noted_groups, noted_plain, noted_items, occurrences_of}
 use Rattle.sbl_resolver.specs.OccurrenceView.{noted_prefix, site_after, noted_condition, has_starter, noted_starter, noted_among}
 use Rattle.sbl_resolver.proofs.Walked.{prefixed_is, among_is}
-use Rattle.sbl_resolver.specs.Checks.{fault_at, has_text, is_text_of, is_awaited}
+use Rattle.sbl_resolver.specs.Checks.{fault_at, is_text_of, is_awaited}
+use Rattle.sbl_resolver.specs.inside.CheckParts.{has_text}
 use Rattle.sbl_resolver.specs.Laws.{EachPasses}
 use Rattle.sbl_resolver.specs.Amongs.{text_of, texts_of, IsSound, EachAmong, EachAmongOfRows, EachAmongOfOthers, EachAmongOfStarter, EachAmongOfGroups, EachAmongOfPlain, EachAmongOfPlains, EachAmongOfItems, AmongsAreSound}
 use Rattle.sbl_resolver.proofs.FirstFault as first

@@ -166,26 +166,6 @@ WellDeclared items external = fault_of items external ≡ None
 
 -- ---- names for parts of these definitions, which only laws and proofs use
 
--- there is a value, and it passes the test
-abbrev pub is_some_and : {X : Type 0} → (X → Bool) → Option X → Bool
-is_some_and test o = option_map_or test o false
-
 -- a name of this kind needs a definition
 abbrev pub needs_definition : DeclarationKind → Bool
 needs_definition k = is_routine k || is_grouping k
-
--- there is a definition in the other mode
-abbrev pub is_in_other : Mode → Option Site → Bool
-is_in_other m site = option_map_or (λ p. not (is_mode m p.mode)) site false
-
-abbrev pub is_text : ℕ → List ℕ → Notice → Bool
-is_text k text (string o t) = nat_eq k o && bytes_eq text t
-is_text k text _ = false
-
--- some occurrence is a string of this among of this item
-abbrev pub has_text : ℕ → ℕ → List ℕ → List Occurrence → Bool
-has_text item k text ms = list_any (is_text_of item k text) ms
-
--- the name is declared in `externals` and defined in forward mode
-abbrev pub has_external : List Item → List ℕ → List Occurrence → Bool
-has_external items external all = option_map_or (is_kind kinds.Externals) (kind_of external all) false && is_some (body_in external items)

@@ -10,3 +10,4 @@ pub mod AllFaults
 pub mod OccurrenceView
 pub mod MetNames
 pub mod FirstFault
+pub mod inside

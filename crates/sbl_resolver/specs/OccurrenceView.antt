@@ -10,7 +10,7 @@ use Rattle.sbl_ast.specs.declared.tree.Simple.{Simple}
 use Rattle.sbl_ast.specs.Tree.{Expression, expression, Sums, no_sums, sum, Product, product, Scales, no_scales, scale, Factor, negated}
 use Rattle.sbl_ast.specs.Tree.{bracketed, numeral, variable, fixed, length_of, Starter, no_starter, starter, Groups, Term, term, simple_}
 use Rattle.sbl_ast.specs.Tree.{Entry}
-use Rattle.sbl_ast.specs.View.{view_groups}
+use Rattle.sbl_ast.specs.inside.ViewParts.{view_groups}
 use Rattle.sbl_ast.specs.declared.tree.Group.{Group}
 use Rattle.sbl_resolver.specs.declared.occurrences.Use.TheVariants as use_as
 use Rattle.sbl_resolver.specs.declared.occurrences.Notice.{Notice}

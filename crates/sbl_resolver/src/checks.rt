@@ -2,6 +2,7 @@
 
 ghost use Rattle.std.specs.Prelude.{◌≡◌, ℕ, ◌∷◌, [], ◌++◌, List, not, is_some, ◌||◌, ◌+◌, ◌<◌, length, drop, nat_eq, ◌&&◌, ◌⊎◌, IfOk, IfErr, OnOk, MatchOption, if◌then◌else◌, Some, None, ◌==◌};
 ghost use Rattle.sbl_resolver.specs.Checks as spec;
+ghost use Rattle.sbl_resolver.specs.inside.CheckParts as parts;
 ghost use Rattle.sbl_resolver.specs.Occurrences.{Occurrence as PlainOccurrence, occurrences_of as spec_occurrences};
 ghost use Rattle.sbl_resolver.specs.OccurrenceView.{view_notice, view_occurrence, view_occurrences};
 ghost use Rattle.sbl_resolver.specs.Laws.{EachPasses};
@@ -58,7 +59,7 @@ fn is_earlier(item: usize, definition: Option<Site>) -> bool
 
 /// Returns whether there is a definition in the other mode.
 fn is_in_other(mode: Mode, definition: Option<Site>) -> bool
-    ensures { result ≡ spec.is_in_other mode definition }
+    ensures { result ≡ parts.is_in_other mode definition }
 {
     match definition {
         None => false,
@@ -437,7 +438,7 @@ pub fn check(alloc: Global, items: &[ScriptItem], external: &str) -> Result<(), 
 
 /// Returns whether a name that is declared as this kind and has this body is an external with a body.
 pub(crate) fn is_external(kind: Option<DeclarationKind>, body: Option<&RowOfCommands>) -> bool
-    ensures { result ≡ (spec.is_some_and (spec.is_kind DeclarationKind.Externals) kind && is_some body.entry) }
+    ensures { result ≡ (parts.is_some_and (spec.is_kind DeclarationKind.Externals) kind && is_some body.entry) }
 {
     match kind {
         Some(DeclarationKind::Externals) => body.is_some(),
@@ -450,7 +451,7 @@ fn check_external(
     kind: Option<DeclarationKind>,
     body: Option<&RowOfCommands>,
 ) -> Result<(), ScriptFault>
-    ensures { Finds result (if spec.is_some_and (spec.is_kind DeclarationKind.Externals) kind && is_some body.entry then None else Some ScriptFault.NoExternal) }
+    ensures { Finds result (if parts.is_some_and (spec.is_kind DeclarationKind.Externals) kind && is_some body.entry then None else Some ScriptFault.NoExternal) }
 {
     if is_external(kind, body) {
         Ok(())

@@ -1,7 +1,8 @@
 //! Collects the occurrences of a script, in text order.
 
 ghost use Rattle.std.specs.Prelude.{◌≡◌, map, OnOk, IfOk, string_bytes};
-ghost use Rattle.sbl_ast.specs.View.{view_argument, view_expression, view_factor, view_product, view_sums, view_scales, view_entry, view_command, view_rows, view_others, view_starter, view_among, view_groups, view_row, view_term, view_plain, view_items};
+ghost use Rattle.sbl_ast.specs.View.{view_argument, view_expression, view_entry, view_command, view_among, view_row, view_term, view_plain, view_items};
+ghost use Rattle.sbl_ast.specs.inside.ViewParts.{view_factor, view_product, view_sums, view_scales, view_rows, view_others, view_starter, view_groups};
 ghost use Rattle.sbl_ast.specs.Order.{view_in_mode};
 ghost use Rattle.sbl_resolver.specs.Occurrences as spec;
 ghost use Rattle.sbl_resolver.specs.OccurrenceView as walk;

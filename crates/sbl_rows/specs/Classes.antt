@@ -89,9 +89,3 @@ view_stem_class c = record { stem = c.stem.now; members = texts_of c.members.ite
 
 abbrev pub view_stem_classes : List borrowed.StemClass → List Class
 view_stem_classes classes = map view_stem_class classes
-
--- ---- names for proofs
-
--- the words of the rows that have this stem
-abbrev pub words_with : List ℕ → List Row → List (List ℕ)
-words_with stem rows = members_of stem (stem_pairs rows)

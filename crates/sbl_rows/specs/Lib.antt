@@ -21,3 +21,4 @@ pub mod Sides
 pub mod Ranking
 pub mod Counting
 pub mod Views
+pub mod inside

@@ -1,7 +1,6 @@
 -- What the run of a word depends on besides the word.
-use Rattle.std.specs.Prelude.{◌≡◌, ℕ, List}
+use Rattle.std.specs.Prelude.{ℕ}
 use Rattle.sbl_ast.specs.Source.{Source}
-use Rattle.sbl_semantics.specs.Outcome.{run_of, touches_of, used_of}
 
 -- the current script, and the current limit of steps
 pub record Setting : Type 0 where
@@ -10,9 +9,3 @@ pub record Setting : Type 0 where
 
 abbrev pub under : Source → ℕ → Setting
 under script limit = record { script = script; limit = limit }
-
--- a word has the same run in two settings: the same outcome, the same items touched, the same number of steps used
-pub record RunsSame (s t : Setting) (word : List ℕ) : Type 0 where
-  pub outcome : run_of t.script word t.limit ≡ run_of s.script word s.limit
-  pub touches : touches_of t.script word t.limit ≡ touches_of s.script word s.limit
-  pub used : used_of t.script word t.limit ≡ used_of s.script word s.limit

@@ -13,9 +13,11 @@ use Rattle.sbl_semantics.specs.declared.fault.RunFault.TheVariants.{Steps, Curso
 use Rattle.sbl_semantics.specs.declared.touch.Touch.TheVariants.{Tested}
 use Rattle.sbl_program.specs.Actions.{test_grouping}
 use Rattle.sbl_run_state.specs.Seeking.{count_before, seek_ending}
-use Rattle.sbl_semantics.specs.Moves.{next, next_is, one_of, touch_grouping}
+use Rattle.sbl_semantics.specs.Moves.{next, one_of, touch_grouping}
+use Rattle.sbl_semantics.specs.inside.MoveParts.{next_is}
 use Rattle.sbl_semantics.specs.Fitting.{read_as}
-use Rattle.sbl_semantics.specs.Control.{end_search, pay_first, seeks}
+use Rattle.sbl_semantics.specs.Control.{pay_first, seeks}
+use Rattle.sbl_semantics.specs.inside.ControlParts.{end_search}
 use Rattle.sbl_semantics.specs.State.{State, Ending, Doing, Signals, Stops, after, then_on, pay, ahead, move_cursor, at_place, room, saved_cursor, put_back}
 use Rattle.sbl_semantics.specs.Touches.{with_touch}
 

@@ -4,7 +4,7 @@ use Rattle.std.specs.List.{position_or_len}
 use Rattle.sbl_ast.specs.declared.mode.Mode.{Mode}
 use Rattle.sbl_semantics.specs.declared.fault.RunFault.TheVariants.{Steps}
 use Rattle.sbl_semantics.specs.State.{State, Ending, Signals, Stops, move_cursor}
-use Rattle.sbl_semantics.specs.Moves.{next_is}
+use Rattle.sbl_semantics.specs.inside.MoveParts.{next_is}
 
 -- the number of characters before the first that is met; all of them if none is
 abbrev pub count_before : Bool → (ℕ → Bool) → List ℕ → ℕ

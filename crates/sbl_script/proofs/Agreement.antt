@@ -10,9 +10,11 @@ use Rattle.sbl_text.specs.Escapes.{InForce, nothing_set}
 use Rattle.sbl_text.specs.Directives.{Directives, start_under}
 use Rattle.sbl_ast.specs.declared.mode.Mode.TheVariants.{Backward}
 use Rattle.sbl_ast.specs.Counts.{count_in_among}
-use Rattle.sbl_ast.specs.Order.{ItemInMode, in_mode, in_order}
+use Rattle.sbl_ast.specs.Order.{ItemInMode, in_order}
+use Rattle.sbl_ast.specs.inside.OrderParts.{in_mode}
 use Rattle.sbl_ast.specs.Tree.{Argument, Term, Command, Others, Starter, Groups, Plain, declaration, escapes, macro, routine, grouping, Item, plain, backward, among_}
-use Rattle.sbl_ast.specs.Places.{AtDepth, places, placed_plain, placed_plains, tokens}
+use Rattle.sbl_ast.specs.Places.{AtDepth, places, placed_plain, tokens}
+use Rattle.sbl_ast.specs.inside.PlaceParts.{placed_plains}
 use Rattle.sbl_ast.specs.Source.{Source}
 use Rattle.sbl_ast.specs.Texts.{Text, TreeOf, places_in}
 use Rattle.sbl_ast.specs.Texts as texts

@@ -7,7 +7,8 @@ use Rattle.std.proofs.lemmas.Slice.Eq.{bytes_eq-Decides}
 use Rattle.sbl_ast.specs.declared.mode.Mode.{Mode}
 use Rattle.sbl_ast.specs.declared.mode.Mode.TheVariants.{Forward, Backward}
 use Rattle.sbl_ast.specs.Tree.{Plain, declaration, escapes, macro, routine, grouping, Item, plain, backward}
-use Rattle.sbl_ast.specs.Order.{ItemInMode, in_mode, in_order}
+use Rattle.sbl_ast.specs.Order.{ItemInMode, in_order}
+use Rattle.sbl_ast.specs.inside.OrderParts.{in_mode}
 use Rattle.sbl_resolver.specs.Bodies.{body_in}
 use Rattle.sbl_script.specs.Edits.{ScriptEdit, body, among, terms, changes, is_routine_named, is_grouping_named, plains_with, items_with}
 use Rattle.sbl_script.specs.Homes.{first_in, first_passing, plain_if}

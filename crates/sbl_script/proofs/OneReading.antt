@@ -7,7 +7,8 @@ use Rattle.sbl_text.specs.declared.fault.ScriptFault.TheVariants as fault
 use Rattle.sbl_token.specs.Lexemes.{Lexeme}
 use Rattle.sbl_text.specs.Literals.{byte_length}
 use Rattle.sbl_text.specs.Directives.{Directives, start}
-use Rattle.sbl_text.specs.Tokens.{Piece, PlacedToken, AreTokensFrom, ArePlacedFrom, and_more, piece_lexemes, put_placed, placed_from}
+use Rattle.sbl_text.specs.Tokens.{Piece, PlacedToken, AreTokensFrom, ArePlacedFrom, piece_lexemes, placed_from}
+use Rattle.sbl_text.specs.inside.TokenParts.{and_more, put_placed}
 use Rattle.sbl_text.specs.Laws.{PlacesAreOne, FirstFaultIsOne, TokensOrFault}
 use Rattle.sbl_ast.specs.Tree.{Item}
 use Rattle.sbl_ast.specs.Texts.{Text, TreeOf, script}

@@ -1,7 +1,8 @@
 -- A token of a routine's body sets nothing where the next token is to come; nor does one of a declaration or of a grouping's definition.
 use Rattle.std.proofs.Common.{◌≡◌, ℕ, ◌+◌, true, false, List, [], ◌∷◌, Some, None, refl}
 use Rattle.sbl_text.specs.Escapes.{InForce}
-use Rattle.sbl_text.specs.Directives.{after, no_directive}
+use Rattle.sbl_text.specs.Directives.{after}
+use Rattle.sbl_text.specs.inside.DirectiveParts.{no_directive}
 use Rattle.sbl_ast.specs.declared.tree.DeclarationKind.{DeclarationKind}
 use Rattle.sbl_ast.specs.declared.tree.DeclarationKind.TheVariants as declarations
 use Rattle.sbl_ast.specs.declared.tree.Joiner.{Joiner}
@@ -34,7 +35,8 @@ use Rattle.sbl_token.specs.declared.words.Word.TheVariants as words
 use Rattle.sbl_token.specs.declared.signs.Sign.TheVariants as signs
 use Rattle.sbl_ast.specs.Symbols as t
 use Rattle.sbl_ast.specs.Tree.{Argument, written_out, by_name, Expression, expression, Sums, no_sums, sum, Product, product, Scales, no_scales, scale, Factor, negated, bracketed, numeral, variable, fixed, length_of, Entry, entry, Command, bracket, simple_, literal_, name_, non_, prefixed, counted, move_, named, splice_, setlimit_, assign_, compare_, compare_values_, among_, Rows, no_rows, row, Others, no_others, joined, Starter, no_starter, starter, Groups, bare, group, Term, term}
-use Rattle.sbl_ast.specs.Places.{AtDepth, placed_command, placed_rows, placed_others, placed_starter, placed_groups, placed_entry, placed_entries, placed_expression, placed_sums, placed_product, placed_scales, placed_factor, placed_names, placed_terms}
+use Rattle.sbl_ast.specs.Places.{AtDepth, placed_command, placed_rows, placed_others, placed_starter, placed_groups, placed_entry, placed_entries, placed_expression, placed_sums, placed_product, placed_scales, placed_factor, placed_terms}
+use Rattle.sbl_ast.specs.inside.PlaceParts.{placed_names}
 use Rattle.sbl_ast.specs.Texts.{body, places_in}
 use Rattle.sbl_script.proofs.Putting.{Each}
 

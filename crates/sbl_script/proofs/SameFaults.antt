@@ -7,7 +7,8 @@ use Rattle.sbl_ast.specs.declared.mode.Mode.TheVariants.{Backward}
 use Rattle.sbl_resolver.specs.declared.occurrences.Site.{Site}
 use Rattle.sbl_resolver.specs.declared.occurrences.Use.{Use}
 use Rattle.sbl_resolver.specs.Occurrences.{Occurrence, Notice, declares, defines_routine, defines_grouping, uses, substring, among, string, backwards, region_end}
-use Rattle.sbl_resolver.specs.Checks.{kind_of, definition_of, is_some_and, is_mode, is_routine, is_grouping, may_be, is_earlier, is_in_other, lacks_definition, is_followed, is_awaited, has_text, fault_at, fault_of_use, fault_of_definition}
+use Rattle.sbl_resolver.specs.Checks.{kind_of, definition_of, is_mode, is_routine, is_grouping, may_be, is_earlier, lacks_definition, is_followed, is_awaited, fault_at, fault_of_use, fault_of_definition}
+use Rattle.sbl_resolver.specs.inside.CheckParts.{is_some_and, is_in_other, has_text}
 use Rattle.sbl_script.specs.OnlyTheItem.{item_of}
 
 -- ---- what decides the fault

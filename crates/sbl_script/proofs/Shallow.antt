@@ -6,7 +6,8 @@ use Rattle.sbl_tree_amongs.specs.Amongs.{FitsAt, AmongContents, nth_held}
 use Rattle.sbl_token.specs.Lexemes as lex
 use Rattle.sbl_token.specs.declared.signs.Sign.TheVariants as signs
 use Rattle.sbl_ast.specs.Tree.{Argument, Term, Plain, routine, grouping, Item, plain, backward, Starter, Groups, among_}
-use Rattle.sbl_ast.specs.Places.{AtDepth, placed_command, placed_plain, placed_plains, placed_items, AreShallow}
+use Rattle.sbl_ast.specs.Places.{AtDepth, placed_command, placed_plain, AreShallow}
+use Rattle.sbl_ast.specs.inside.PlaceParts.{placed_plains, placed_items}
 use Rattle.sbl_ast.specs.Texts.{among, body, terms, places_in}
 use Rattle.sbl_ast.specs.View.{RowView}
 use Rattle.sbl_ast.proofs.After.{IsBefore, by_itself, after_it, with_after, plain_before}

@@ -5,9 +5,11 @@ use Rattle.std.specs.List.{list_any}
 use Rattle.std.specs.Option.{option_or}
 use Rattle.sbl_text.specs.Escapes.{InForce, nothing_set}
 use Rattle.sbl_token.specs.Lexemes.{Lexeme}
-use Rattle.sbl_text.specs.Directives.{Directives, after, no_directive, start}
+use Rattle.sbl_text.specs.Directives.{Directives, after, start}
+use Rattle.sbl_text.specs.inside.DirectiveParts.{no_directive}
 use Rattle.sbl_text.specs.Literals.{byte_length}
-use Rattle.sbl_text.specs.Tokens.{PlacedToken, Piece, MayEnd, and_more, placed_from, put_placed, piece_lexemes}
+use Rattle.sbl_text.specs.Tokens.{PlacedToken, Piece, MayEnd, placed_from, piece_lexemes}
+use Rattle.sbl_text.specs.inside.TokenParts.{and_more, put_placed}
 use Rattle.sbl_text.specs.SpacedTokens.{IsSaid, AreSaid, after_all}
 use Rattle.sbl_text.proofs.Spaced.{tokens_said}
 use Rattle.sbl_ast.specs.declared.tree.Base.TheVariants as bases
@@ -15,7 +17,8 @@ use Rattle.sbl_ast.specs.Terminal.{lexeme_as}
 use Rattle.sbl_token.specs.Lexemes as lex
 use Rattle.sbl_token.specs.declared.signs.Sign.TheVariants as signs
 use Rattle.sbl_ast.specs.Tree.{Argument, Term, Starter, Groups, among_, Plain, declaration, escapes, macro, routine, grouping, Item, plain, backward}
-use Rattle.sbl_ast.specs.Places.{lexemes_of, AtDepth, placed_command, placed_plain, placed_plains, placed_items, tokens}
+use Rattle.sbl_ast.specs.Places.{lexemes_of, AtDepth, placed_command, placed_plain, tokens}
+use Rattle.sbl_ast.specs.inside.PlaceParts.{placed_plains, placed_items}
 use Rattle.sbl_ast.specs.View.{RowView}
 use Rattle.sbl_tree_amongs.specs.Amongs.{put_in_body}
 use Rattle.sbl_ast.specs.Texts.{Text, TreeOf, body, places_in, script, tokens_of}

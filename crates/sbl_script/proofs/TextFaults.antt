@@ -11,10 +11,12 @@ use Rattle.sbl_text.specs.declared.pieces.Expectation.TheVariants as wanted
 use Rattle.sbl_text.specs.Classes.{is_white, quote, slash}
 use Rattle.sbl_text.specs.declared.escapes.Inserts.{Inserts}
 use Rattle.sbl_text.specs.Escapes.{InForce, find, opens}
-use Rattle.sbl_text.specs.Literals.{Refusal, byte_length, code_or_fault, character_named, value_or_character, insertion_value, FirstWrong}
+use Rattle.sbl_text.specs.Literals.{byte_length, character_named, insertion_value, FirstWrong}
+use Rattle.sbl_text.specs.inside.LiteralParts.{Refusal, code_or_fault, value_or_character}
 use Rattle.sbl_text.specs.Codes.{code_of}
 use Rattle.sbl_text.specs.Directives.{Directives}
-use Rattle.sbl_text.specs.Tokens.{PlacedToken, starts_star, pair_fault, token_fault, fault_at, IsRefused}
+use Rattle.sbl_text.specs.Tokens.{PlacedToken, fault_at, IsRefused}
+use Rattle.sbl_text.specs.inside.TokenParts.{starts_star, pair_fault, token_fault}
 use Rattle.sbl_ast.specs.Texts.{Text}
 use Rattle.sbl_script.specs.OnlyTheItem.{item_of}
 use Rattle.sbl_script.specs.Reading.{IsTextFault, IsUnread}

@@ -16,9 +16,6 @@ conclude_search k n g s = note_event (Finds k n) (record s { choices = slice_set
 
 -- ---- names for parts of these definitions, which the interpreter and proofs use
 
-abbrev pub choose : ℕ → Option ℕ → State → State
-choose k g s = record s { choices = slice_set s.choices k g }
-
 abbrev pub take_string : ℕ → ℕ → ℕ → State → State
 take_string k n g s = conclude_search k (Some n) (Some g) s
 

@@ -59,9 +59,6 @@ back_in i choices b s = note_event (Leaves b) (record s { choices = choices; rou
 abbrev pub count_of : ℤ → ℕ
 count_of z = unwrap_or (natural z) 0
 
-abbrev pub end_search : Bool → Mode → State → State → Ending
-end_search past m s t = if past then Signals true t else put_back m (saved_cursor s) t
-
 abbrev pub limits : State → Limits
 limits s = record { left = s.left; beyond = s.beyond }
 

@@ -1,5 +1,5 @@
 -- The events that a run records on request.
-use Rattle.std.specs.Prelude.{ℕ, Bool, List, [], ◌∷◌, ◌++◌, map, Option, Some, None, option_map}
+use Rattle.std.specs.Prelude.{ℕ, Bool, List, map, Option, Some, None}
 use Rattle.std.specs.declared.alloc.Global.{Global}
 use Rattle.std.specs.declared.vec.Vec.{Vec}
 use Rattle.sbl_semantics.specs.declared.event.Event.{Event}
@@ -31,7 +31,3 @@ event_of (code.Puts from to put) = Puts from to put.items
 abbrev pub view_events : Option (Vec Event Global) → Option (List Event')
 view_events None = None
 view_events (Some events) = Some (map event_of events.items)
-
--- the event added after those so far, if the run records events
-abbrev pub with_event : Event' → Option (List Event') → Option (List Event')
-with_event x events = option_map (λ xs. xs ++ (x ∷ [])) events

@@ -41,9 +41,6 @@ to_mark (Some n) Backward s =
 
 -- ---- names for parts of these definitions, which the interpreter and proofs use
 
-abbrev pub next_is : Bool → (ℕ → Bool) → Option ℕ → Bool
-next_is wanted class next = option_map_or (λ c. if wanted then class c else not (class c)) next false
-
 abbrev pub touch_grouping : ℕ → State → State
 touch_grouping g s = record s { touched = with_touch (Tested g) s.touched }
 

@@ -1,1 +1,5 @@
 pub mod MeaningParts
+pub mod ChoiceParts
+pub mod ControlParts
+pub mod EventParts
+pub mod MoveParts

@@ -4,7 +4,8 @@ use Rattle.std.proofs.lemmas.List.Folds.{list_all_at}
 use Rattle.std.proofs.lemmas.List.{drop_all, drop_more}
 use Rattle.std.specs.List.{list_all}
 use Rattle.sbl_text.specs.Classes.{is_digit}
-use Rattle.sbl_text.specs.Tokens.{digits_value, number_of}
+use Rattle.sbl_text.specs.Tokens.{number_of}
+use Rattle.sbl_text.specs.inside.TokenParts.{digits_value}
 use Rattle.sbl_sessions.specs.Numbers.{number_in}
 use Rattle.sbl_sessions.specs.inside.SessionParts.{max_number}
 

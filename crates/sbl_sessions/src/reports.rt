@@ -9,8 +9,9 @@ ghost use Rattle.sbl_machine.specs.ItemRefs.{items_of_refs};
 ghost use Rattle.sbl_print.specs.Canonical.{canonical};
 ghost use Rattle.sbl_sessions.specs.{Answers.with_line_feed, CommandViews.IsAnswer};
 ghost use Rattle.sbl_sessions.specs.inside.SessionParts.{Class, Trace};
-ghost use Rattle.sbl_reports.specs.ItemRecords.{items_text};
+ghost use Rattle.sbl_reports.specs.inside.ItemTexts.{items_text};
 ghost use Rattle.sbl_reports.specs.Listings as spec;
+ghost use Rattle.sbl_reports.specs.inside.ListingParts as parts;
 
 use crate::replies::{Reply, edit_text, report};
 use crate::session_edits::{MAX_LOOKED_AT, first_characters};
@@ -76,7 +77,7 @@ fn class_or_row_text(
     word: &[char],
     row: Row<'_>,
 ) -> Result<Vec<u8>, AllocError>
-    ensures { IfOk result (λ text. text.items ≡ spec.class_or_row_text (contents_of bench.now) word.now (view_row row.entry)) }
+    ensures { IfOk result (λ text. text.items ≡ parts.class_or_row_text (contents_of bench.now) word.now (view_row row.entry)) }
 {
     match bench.class_of(word)? {
         Some(class) => records_text(alloc, &[class]),

@@ -12,8 +12,10 @@ use Rattle.sbl_text.specs.Classes.{is_white, quote, slash}
 use Rattle.sbl_text.specs.Codes.{code_of}
 use Rattle.sbl_text.specs.Directives.{Directives}
 use Rattle.sbl_text.specs.Escapes.{InForce, opens, find}
-use Rattle.sbl_text.specs.Literals.{Refusal, byte_length, code_or_fault, character_named, value_or_character, insertion_value, IsWrong}
-use Rattle.sbl_text.specs.Tokens.{PlacedToken, starts_star, pair_fault, token_fault, fault_at, IsRefused, IsFirstFaultFrom}
+use Rattle.sbl_text.specs.Literals.{byte_length, character_named, insertion_value, IsWrong}
+use Rattle.sbl_text.specs.inside.LiteralParts.{Refusal, code_or_fault, value_or_character}
+use Rattle.sbl_text.specs.Tokens.{PlacedToken, fault_at, IsRefused, IsFirstFaultFrom}
+use Rattle.sbl_text.specs.inside.TokenParts.{starts_star, pair_fault, token_fault}
 use Rattle.sbl_ast.specs.Texts.{Text}
 use Rattle.sbl_parser.specs.Reading.{IsSyntaxAt, IsTooDeepAt, IsOutOfProfileAt}
 use Rattle.sbl_ast.specs.declared.mode.Mode.TheVariants.{Backward}
@@ -22,6 +24,7 @@ use Rattle.sbl_resolver.specs.declared.occurrences.Site.{Site}
 use Rattle.sbl_resolver.specs.declared.occurrences.Use.{Use}
 use Rattle.sbl_resolver.specs.Occurrences.{Occurrence, Notice, declares, defines_routine, defines_grouping, uses, substring, among, string, backwards, region_end}
 use Rattle.sbl_resolver.specs.Checks as checks
+use Rattle.sbl_resolver.specs.inside.CheckParts as check_parts
 use Rattle.sbl_script.specs.Reading.{IsTextFault, IsUnread, place_of, lexemes}
 use Rattle.sbl_source_map.specs.FaultPlaces.{is_of_token}
 
@@ -37,16 +40,16 @@ none f e = absurd cc
 of_definition : (i : ℕ) (is_allowed : DeclarationKind → Bool) (k : Option DeclarationKind) (d : Option Site) (f : ScriptFault) → checks.fault_of_definition i is_allowed k d ≡ Some f → is_of_token f ≡ true
 of_definition i is_allowed k d f =
     one (not (is_some k)) (fault.Undeclared i) _ f refl (
-    one (not (checks.is_some_and is_allowed k)) (fault.WrongKind i) _ f refl (
+    one (not (check_parts.is_some_and is_allowed k)) (fault.WrongKind i) _ f refl (
     one (checks.is_earlier i d) (fault.DefinedTwice i) None f refl (
     none f)))
 
 of_use : (p : Site) (u : Use) (k : Option DeclarationKind) (d : Option Site) (f : ScriptFault) → checks.fault_of_use p u k d ≡ Some f → is_of_token f ≡ true
 of_use p u k d f =
     one (not (is_some k)) (fault.Undeclared p.item) _ f refl (
-    one (not (checks.is_some_and (checks.may_be u) k)) (fault.WrongKind p.item) _ f refl (
+    one (not (check_parts.is_some_and (checks.may_be u) k)) (fault.WrongKind p.item) _ f refl (
     one (checks.lacks_definition u p.item k d) (fault.Undefined p.item) _ f refl (
-    one (checks.is_some_and checks.is_routine k && checks.is_in_other p.mode d) (fault.WrongMode p.item) None f refl (
+    one (check_parts.is_some_and checks.is_routine k && check_parts.is_in_other p.mode d) (fault.WrongMode p.item) None f refl (
     none f))))
 
 of_notice : (all before after : List Occurrence) (p : Site) (n : Notice) (f : ScriptFault) → checks.fault_at all before (record { site = p; notice = n }) after ≡ Some f → is_of_token f ≡ true
@@ -57,7 +60,7 @@ of_notice all before after p (uses u n) f = of_use p u (checks.kind_of n before)
 of_notice all before after p substring f = one (not (checks.is_followed p.mode after)) (fault.Substring p.item) None f refl (none f)
 of_notice all before after p (among has_starter is_empty) f =
     one (has_starter && checks.is_awaited before false) (fault.Starter p.item) _ f refl (one is_empty (fault.EmptyAmong p.item) None f refl (none f))
-of_notice all before after p (string k t) f = one (checks.has_text p.item k t before) (fault.RepeatedString p.item) None f refl (none f)
+of_notice all before after p (string k t) f = one (check_parts.has_text p.item k t before) (fault.RepeatedString p.item) None f refl (none f)
 of_notice all before after p backwards f = one (checks.is_mode Backward p.mode) (fault.NestedBackwards p.item) None f refl (none f)
 of_notice all before after p region_end f = none f
 

@@ -9,7 +9,8 @@ use Rattle.sbl_token.specs.declared.token.Token.{Token}
 use Rattle.sbl_token.specs.Lexemes.{Lexeme}
 use Rattle.sbl_text.specs.Directives.{Directives}
 use Rattle.sbl_text.specs.Literals.{byte_length}
-use Rattle.sbl_text.specs.Tokens.{AreCut, ArePlaced, Piece, PlacedToken, after_piece, placed_from, placed_of, put_placed}
+use Rattle.sbl_text.specs.Tokens.{AreCut, ArePlaced, Piece, PlacedToken, placed_from, placed_of}
+use Rattle.sbl_text.specs.inside.TokenParts.{after_piece, put_placed}
 use Rattle.sbl_text.proofs.Lists.{bytes_append}
 use Rattle.sbl_script.specs.Edits.{ScriptEdit, among, body, terms}
 use Rattle.sbl_source_map.specs.SubjectTokens.{is_among}

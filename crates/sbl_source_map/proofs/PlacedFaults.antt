@@ -14,8 +14,10 @@ use Rattle.sbl_text.specs.Classes.{is_white, quote, slash}
 use Rattle.sbl_text.specs.Codes.{code_of}
 use Rattle.sbl_text.specs.Directives.{Directives}
 use Rattle.sbl_text.specs.Escapes.{InForce, opens, find}
-use Rattle.sbl_text.specs.Literals.{Refusal, byte_length, code_or_fault, character_named, value_or_character, insertion_value, IsWrong}
-use Rattle.sbl_text.specs.Tokens.{PlacedToken, starts_star, pair_fault, token_fault, fault_at, IsRefused, IsFirstFaultFrom, ArePlaced}
+use Rattle.sbl_text.specs.Literals.{byte_length, character_named, insertion_value, IsWrong}
+use Rattle.sbl_text.specs.inside.LiteralParts.{Refusal, code_or_fault, value_or_character}
+use Rattle.sbl_text.specs.Tokens.{PlacedToken, fault_at, IsRefused, IsFirstFaultFrom, ArePlaced}
+use Rattle.sbl_text.specs.inside.TokenParts.{starts_star, pair_fault, token_fault}
 use Rattle.sbl_ast.specs.Texts.{Text}
 use Rattle.sbl_parser.specs.Reading.{IsSyntaxAt, IsTooDeepAt, IsOutOfProfileAt}
 use Rattle.sbl_script.specs.Reading.{IsUnread, place_of, lexemes}

@@ -14,7 +14,8 @@ use Rattle.std.specs.List.{All}
 use Rattle.std.proofs.lemmas.List.Elements.{All-append, All-cons, All-nil}
 use Rattle.sbl_token.specs.Lexemes.{Lexeme, lexeme_of, SaysFitting}
 use Rattle.sbl_text.specs.Directives.{Directives, setting_of, after}
-use Rattle.sbl_text.specs.Tokens.{Says, Piece, after_piece, AreCut, and_more, piece_lexemes, AreTokensFrom, PlacedToken, placed_of, put_placed, placed_from, ArePlacedFrom, IsFirstFaultFrom, Stops, IsAt, Advances, Reading, IsAnswer, IsNext}
+use Rattle.sbl_text.specs.Tokens.{Says, Piece, AreCut, piece_lexemes, AreTokensFrom, PlacedToken, placed_of, placed_from, ArePlacedFrom, IsFirstFaultFrom, Stops, IsAt, Advances, Reading, IsAnswer, IsNext}
+use Rattle.sbl_text.specs.inside.TokenParts.{after_piece, and_more, put_placed}
 use Rattle.sbl_text.proofs.Written.{sign_found_as}
 
 pub append_nil : {X : Type 0} (xs : List X) → xs ++ [] ≡ xs

@@ -16,11 +16,14 @@ use Rattle.sbl_token.specs.declared.token.Token.{Token}
 use Rattle.sbl_token.specs.Words.{word_of}
 use Rattle.sbl_text.specs.Escapes.{InForce, opens, closes}
 use Rattle.sbl_text.specs.Literals.{byte_length, Means, FirstWrong, is_closed}
-use Rattle.sbl_text.specs.Pieces.{is_inner, Setting, setting, NoPiece, Gap, AreGaps, AfterGaps}
+use Rattle.sbl_text.specs.Pieces.{is_inner, Setting, NoPiece, Gap, AreGaps, AfterGaps}
+use Rattle.sbl_text.specs.inside.PieceParts.{setting}
 use Rattle.sbl_text.specs.Scan.{Piece_at}
 use Rattle.sbl_token.specs.Lexemes.{Lexeme, word, sign, name, number, literal, inserts, macro_name, lexeme_of, SaysFitting}
-use Rattle.sbl_text.specs.Directives.{Directives, Defining, setting_of, no_directive, value_for, defined_by}
-use Rattle.sbl_text.specs.Tokens.{digits_value, word_or_name, IsLexeme, LacksValue, MayEnd, IsRefused, fault_at, pair_fault, Stops, Comes}
+use Rattle.sbl_text.specs.Directives.{Directives, Defining, setting_of, value_for, defined_by}
+use Rattle.sbl_text.specs.inside.DirectiveParts.{no_directive}
+use Rattle.sbl_text.specs.Tokens.{IsLexeme, MayEnd, IsRefused, fault_at, Stops, Comes}
+use Rattle.sbl_text.specs.inside.TokenParts.{digits_value, word_or_name, LacksValue, pair_fault}
 
 -- ---- numbers
 

@@ -7,7 +7,8 @@ use Rattle.std.proofs.lemmas.Bool.Decides.{nat_tests}
 use Rattle.std.proofs.lemmas.List.{length-append}
 use Rattle.std.proofs.Math.Seq.{take-append_seam, drop-append_seam}
 use Rattle.sbl_text.specs.Classes.{is_white}
-use Rattle.sbl_text.specs.Codes.{value_in, is_scalar, write_scalar, code_of, numbers_in, all_codes}
+use Rattle.sbl_text.specs.Codes.{value_in, is_scalar, code_of, numbers_in, all_codes}
+use Rattle.sbl_text.specs.inside.CodeParts.{write_scalar}
 use Rattle.sbl_text.proofs.Cuts.{and_false}
 use Rattle.sbl_text.proofs.Lists.{append_nil}
 

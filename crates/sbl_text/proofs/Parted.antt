@@ -11,7 +11,8 @@ use Rattle.sbl_text.specs.declared.escapes.Inserts.{Inserts}
 use Rattle.sbl_text.specs.declared.fault.ScriptFault.{ScriptFault}
 use Rattle.sbl_text.specs.declared.fault.ScriptFault.TheVariants as fault
 use Rattle.sbl_text.specs.Escapes.{InForce, opens, closes}
-use Rattle.sbl_text.specs.Literals.{Refusal, byte_length, insertion_value, IsInsertion, IsPlain, Part, IsPart, AreParts, values, Means, IsWrong, FirstWrong, is_closed, IsLiteral}
+use Rattle.sbl_text.specs.Literals.{byte_length, insertion_value, IsInsertion, IsPlain, Part, IsPart, AreParts, Means, IsWrong, FirstWrong, is_closed, IsLiteral}
+use Rattle.sbl_text.specs.inside.LiteralParts.{Refusal, values}
 use Rattle.sbl_text.proofs.Lists.{append_nil, bytes_append}
 
 parts_more : (e : InForce) (text rest following : List ℕ) (ps : List Part) (p : Part) → AreParts e text ps rest → rest ≡ p.text ++ following → IsPart e p → AreParts e text (ps ++ p ∷ []) following

@@ -22,11 +22,13 @@ use Rattle.sbl_text.specs.Classes.{is_white, is_digit, is_word}
 use Rattle.sbl_token.specs.Words.{word_text, words, word_of}
 use Rattle.sbl_token.specs.Signs.{sign_text}
 use Rattle.sbl_token.specs.SignCuts.{two, sign_of}
-use Rattle.sbl_text.specs.Pieces.{Has, may_come, setting, Stands, IsPiece, BeginsComment, is_gap}
+use Rattle.sbl_text.specs.Pieces.{Has, may_come, Stands, IsPiece, BeginsComment, is_gap}
+use Rattle.sbl_text.specs.inside.PieceParts.{setting}
 use Rattle.sbl_text.specs.Scan.{IsCutFrom, FirstPiece, cut_in, past_literal}
 use Rattle.sbl_token.specs.Lexemes.{Lexeme, number}
 use Rattle.sbl_text.specs.Directives.{Directives, after}
-use Rattle.sbl_text.specs.Tokens.{digits_value, number_of, word_or_name, IsLexeme, Says, Piece, MaySay, after_piece, AreCut, and_more, piece_lexemes, MayEnd, AreTokensFrom}
+use Rattle.sbl_text.specs.Tokens.{number_of, IsLexeme, Says, Piece, AreCut, piece_lexemes, MayEnd, AreTokensFrom}
+use Rattle.sbl_text.specs.inside.TokenParts.{digits_value, word_or_name, MaySay, after_piece, and_more}
 use Rattle.sbl_text.specs.SpacedTokens.{lexeme_text, IsSaidBy, IsSaid, after_all, AreSaid, SpacedToken, lexemes_of, are_white, spaced_text}
 use Rattle.sbl_text.proofs.Written.{sign_found_as}
 use Rattle.sbl_text.proofs.Cuts.{and_left, and_right, literal_ends}

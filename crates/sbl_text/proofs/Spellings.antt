@@ -9,7 +9,8 @@ use Rattle.sbl_text.specs.declared.escapes.Inserts.{Inserts}
 use Rattle.sbl_text.specs.declared.fault.ScriptFault.TheVariants as fault
 use Rattle.sbl_text.specs.Codes.{code_of}
 use Rattle.sbl_text.specs.Escapes.{opens, closes}
-use Rattle.sbl_text.specs.Literals.{code_or_fault, character_named, is_closed}
+use Rattle.sbl_text.specs.Literals.{character_named, is_closed}
+use Rattle.sbl_text.specs.inside.LiteralParts.{code_or_fault}
 
 -- ---- the character that is named
 

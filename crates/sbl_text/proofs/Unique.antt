@@ -10,12 +10,14 @@ use Rattle.sbl_text.specs.declared.fault.ScriptFault.{ScriptFault}
 use Rattle.sbl_text.specs.declared.fault.ScriptFault.TheVariants as fault
 use Rattle.sbl_token.specs.declared.token.Token.{Token}
 use Rattle.sbl_text.specs.Escapes.{InForce, opens, closes}
-use Rattle.sbl_text.specs.Literals.{Refusal, byte_length, insertion_value, IsInsertion, IsPlain, Part, IsPart, AreParts, values, Means, IsWrong, FirstWrong, IsLiteral}
+use Rattle.sbl_text.specs.Literals.{byte_length, insertion_value, IsInsertion, IsPlain, Part, IsPart, AreParts, Means, IsWrong, FirstWrong, IsLiteral}
+use Rattle.sbl_text.specs.inside.LiteralParts.{Refusal, values}
 use Rattle.sbl_text.specs.Pieces.{Setting, IsPiece, is_gap}
 use Rattle.sbl_text.specs.Scan.{FirstPiece, cut_in}
 use Rattle.sbl_token.specs.Lexemes.{Lexeme, lexeme_of, sign, literal, inserts}
 use Rattle.sbl_text.specs.Directives.{Directives, setting_of, value_for, after}
-use Rattle.sbl_text.specs.Tokens.{IsLexeme, HasValue, Piece, MaySay, after_piece, AreCut, piece_lexemes, MayEnd, AreTokensFrom, PlacedToken, placed_from, ArePlacedFrom, IsRefused, IsFault, IsFirstFaultFrom, Advances, Reading, IsAnswer, IsNext}
+use Rattle.sbl_text.specs.Tokens.{IsLexeme, HasValue, Piece, AreCut, piece_lexemes, MayEnd, AreTokensFrom, PlacedToken, placed_from, ArePlacedFrom, IsRefused, IsFault, IsFirstFaultFrom, Advances, Reading, IsAnswer, IsNext}
+use Rattle.sbl_text.specs.inside.TokenParts.{MaySay, after_piece}
 use Rattle.sbl_text.proofs.Written.{signs_differ}
 use Rattle.sbl_text.proofs.Cuts.{and_left, and_right}
 use Rattle.sbl_text.proofs.Whole.{LeavesCut, longest}

@@ -14,7 +14,8 @@ use Rattle.sbl_text.specs.declared.escapes.Inserts.{Inserts}
 use Rattle.sbl_text.specs.Classes.{is_white, is_letter, is_digit, is_word}
 use Rattle.sbl_text.specs.Skip.{past}
 use Rattle.sbl_token.specs.SignCuts.{sign_of, sign_prefix, one, two}
-use Rattle.sbl_text.specs.Pieces.{Has, may_come, Setting, setting, Stands, IsPiece, NoPiece, BeginsComment, Gap, AreGaps, AfterGaps, is_gap}
+use Rattle.sbl_text.specs.Pieces.{Has, may_come, Setting, Stands, IsPiece, NoPiece, BeginsComment, Gap, AreGaps, AfterGaps, is_gap}
+use Rattle.sbl_text.specs.inside.PieceParts.{setting}
 use Rattle.sbl_text.specs.Scan.{IsCutFrom, Piece_at, past_literal, past_block, start_of, FirstPiece, cut, cut_at, cut_as, sign_cut, slash_cut, pair_from, pair_cut, name_cut, cut_in}
 use Rattle.sbl_text.proofs.Written.{sign_is, sign_found_as}
 use Rattle.sbl_text.proofs.Cuts.{or_left, or_right, run_of, run_longest, sign_found, sign_longest, literal_parts, literal_ends, block_parts, block_ends, no_end, has_no_end, same_number}

@@ -44,9 +44,3 @@ abbrev pub GivesCharacters : Option (List ℕ) → ℕ → Result (Vec ℕ) Scri
 GivesCharacters characters place result =
     MatchResult result (λ v. characters ≡ Some v.items)
     (λ f. (f ≡ fault.OutOfMemory) ⊎ ((characters ≡ None) × (f ≡ fault.BadCode place)))
-
--- ---- a name for a part of these definitions, which only proofs use
-
--- the digits, after digits that write n, are digits of the base and write a Unicode scalar value
-abbrev pub write_scalar : ℕ → ℕ → List ℕ → Bool
-write_scalar base n ds = list_all (λ c. nat_lt (digit_value c) base) ds && is_scalar (value_in base n ds)

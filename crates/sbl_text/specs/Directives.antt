@@ -2,16 +2,13 @@
 use denote.Enum.Bare.{sameb}
 use Rattle.std.specs.Option.{option_map_or}
 use Rattle.std.specs.Str.{chars}
-use Rattle.std.specs.Prelude.{◌≡◌, ◌⊎◌, ℕ, true, false, if◌then◌else◌, List, Option, Some, None, option_and_then, Result, MatchResult}
+use Rattle.std.specs.Prelude.{ℕ, true, false, if◌then◌else◌, List, Option, Some, None, option_and_then}
 use Rattle.sbl_text.specs.declared.pieces.Expectation.{Expectation}
 use Rattle.sbl_text.specs.declared.pieces.Expectation.TheVariants as wanted
 use Rattle.sbl_text.specs.contracts.directives.Coding as codings
 use Rattle.sbl_text.specs.declared.directives.Coding.{Coding}
 use Rattle.sbl_text.specs.declared.directives.Coding.TheVariants as coding
-use Rattle.sbl_token.specs.declared.words.Word.{Word}
 use Rattle.sbl_token.specs.declared.words.Word.TheVariants as reserved
-use Rattle.sbl_text.specs.declared.fault.ScriptFault.{ScriptFault}
-use Rattle.sbl_text.specs.declared.fault.ScriptFault.TheVariants as fault
 use Rattle.sbl_text.specs.Codes.{codes_of}
 use Rattle.sbl_text.specs.Escapes.{InForce, nothing_set, with_inserts, with_macro}
 use Rattle.sbl_token.specs.Lexemes.{Lexeme, word, literal, inserts, macro_name}
@@ -67,20 +64,3 @@ after s (literal spelling v) = start_under (defined_by s.escapes s.defining v)
 after s (inserts a b) = start_under (with_inserts s.escapes a b)
 after s (macro_name n) = record { escapes = s.escapes; wanted = wanted.Token; defining = Some (record { name = chars n; coding = coding.Plain }) }
 after s _ = start_under s.escapes
-
--- ---- names for parts of these definitions, which no other definition uses
-
-abbrev pub after_word : Directives → Word → Directives
-after_word s w = after s (word w)
-
--- the state after most tokens
-abbrev pub no_directive : InForce → Directives
-no_directive e = start_under e
-
--- The state after a literal with these characters at this byte offset. If there is a fault, the state is as before: `BadCode` if
--- the characters give no value to the macro, or an allocation failed.
-abbrev pub AfterLiteral : Directives → List ℕ → ℕ → Result (Unit {0}) ScriptFault → Directives → Type 0
-AfterLiteral old v place result new =
-    MatchResult result
-    (λ _. (w : List ℕ) × (value_for old.defining v ≡ Some w) × (new ≡ no_directive (defined_by old.escapes old.defining v)))
-    (λ f. (new ≡ old) × ((f ≡ fault.OutOfMemory) ⊎ ((value_for old.defining v ≡ None) × (f ≡ fault.BadCode place))))

@@ -12,3 +12,4 @@ pub mod Laws
 pub mod Skip
 pub mod Scan
 pub mod Latest
+pub mod inside

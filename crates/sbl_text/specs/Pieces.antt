@@ -1,5 +1,5 @@
 -- The pieces of a text: a piece is one token, one comment or one white space character.
-use Rattle.std.specs.Prelude.{◌≡◌, ℕ, ◌≤◌, Bool, true, false, not, ◌&&◌, ◌||◌, ◌==◌, if◌then◌else◌, List, [], ◌∷◌, ◌++◌, length, Option}
+use Rattle.std.specs.Prelude.{◌≡◌, ℕ, ◌≤◌, Bool, true, false, not, ◌||◌, ◌==◌, if◌then◌else◌, List, [], ◌∷◌, ◌++◌, length, Option}
 use Rattle.std.specs.List.{list_all, list_any}
 use denote.Enum.Bare.{sameb}
 use Rattle.sbl_token.specs.declared.signs.Sign.{Sign}
@@ -7,7 +7,7 @@ use Rattle.sbl_text.specs.contracts.pieces.Shape as shapes
 use Rattle.sbl_text.specs.declared.pieces.Shape.{Shape}
 use Rattle.sbl_text.specs.declared.pieces.Shape.TheVariants as shape
 use Rattle.sbl_text.specs.declared.escapes.Inserts.{Inserts}
-use Rattle.sbl_text.specs.Classes.{is_white, is_letter, is_digit, is_word, line_feed, quote, slash, star, begins_with}
+use Rattle.sbl_text.specs.Classes.{is_white, is_letter, is_digit, is_word, line_feed, quote, slash, star}
 use Rattle.sbl_text.specs.declared.pieces.Expectation.{Expectation}
 use Rattle.sbl_text.specs.declared.pieces.Expectation.TheVariants as wanted
 use Rattle.sbl_token.specs.Signs.{sign_text}
@@ -46,9 +46,6 @@ may_come wanted.Token k = not (is_one_of (shape.Inserts ∷ shape.MacroName ∷ 
 pub record Setting : Type 0 where
   pub inserts : Option Inserts
   pub wanted : Expectation
-
-abbrev pub setting : Option Inserts → Expectation → Setting
-setting i w = record { inserts = i; wanted = w }
 
 abbrev pub BeginsComment : List ℕ → Type 0
 BeginsComment text = (c : ℕ) × (more : List ℕ) × (text ≡ slash ∷ c ∷ more) × (c == slash || c == star ≡ true)

@@ -1,7 +1,6 @@
 -- The tokens of a text, and its first fault.
-use Rattle.std.specs.Prelude.{◌≡◌, ◌⊎◌, ℕ, ◌<◌, ◌≤◌, ◌+◌, ◌-◌, ◌*◌, Bool, true, ◌&&◌, ◌==◌, if◌then◌else◌, List, [], ◌∷◌, ◌++◌}
-use Rattle.std.specs.Prelude.{encode_utf8_all, filter_map, fold, drop, Option, Some, None, MatchOption, option_map, Result, Ok, Err, MatchResult}
-use Rattle.std.specs.Str.{chars}
+use Rattle.std.specs.Prelude.{◌≡◌, ◌⊎◌, ℕ, ◌<◌, ◌≤◌, ◌+◌, ◌-◌, ◌*◌, true, ◌&&◌, ◌==◌, if◌then◌else◌, List, [], ◌∷◌, ◌++◌}
+use Rattle.std.specs.Prelude.{encode_utf8_all, filter_map, fold, drop, Option, Some, None, MatchOption, option_map, Result, Ok, Err}
 use Rattle.std.specs.List.{cons_option}
 use Rattle.std.specs.Option.{option_map_or}
 use Rattle.sbl_token.specs.declared.signs.Sign.{Sign}
@@ -10,9 +9,7 @@ use Rattle.sbl_text.specs.declared.pieces.Shape.{Shape}
 use Rattle.sbl_text.specs.declared.pieces.Shape.TheVariants as shape
 use Rattle.sbl_text.specs.declared.fault.ScriptFault.{ScriptFault}
 use Rattle.sbl_text.specs.declared.fault.ScriptFault.TheVariants as fault
-use Rattle.sbl_token.specs.declared.token.Kind.{Kind}
 use Rattle.sbl_token.specs.declared.token.Token.{Token}
-use Rattle.sbl_token.specs.declared.token.Value.{Value}
 use Rattle.sbl_token.specs.Signs.{sign_text}
 use Rattle.sbl_token.specs.Words.{word_of}
 use Rattle.sbl_text.specs.declared.pieces.Expectation.{Expectation}
@@ -21,7 +18,6 @@ use Rattle.sbl_text.specs.Pieces.{IsPiece, NoPiece, AfterGaps, is_gap}
 use Rattle.sbl_text.specs.Directives.{Directives, start, setting_of, value_for, after}
 use Rattle.sbl_text.specs.Literals.{byte_length, Means, FirstWrong}
 use Rattle.sbl_token.specs.Lexemes.{Lexeme, word, sign, name, number, literal, inserts, macro_name, lexeme_of, SaysFitting}
-use Rattle.sbl_token.specs.Lexemes.{fits, lexeme_by}
 use Rattle.sbl_text.specs.Classes.{quote, slash, star, begins_with}
 
 -- the number that the digits write
@@ -43,11 +39,6 @@ IsLexeme s _ x l = ⊥
 abbrev pub HasValue : Directives → Lexeme → Type 0
 HasValue s (literal spelling v) = (w : List ℕ) × (value_for s.defining v ≡ Some w)
 HasValue s _ = Unit {0}
-
--- a literal after `stringdef` has no value for the macro
-abbrev pub LacksValue : Directives → Lexeme → Type 0
-LacksValue s (literal spelling v) = value_for s.defining v ≡ None
-LacksValue s _ = ⊥
 
 -- The meaning of a token: a reserved word is not a name, a number is at most 2147483647, a literal means its
 -- characters.
@@ -202,45 +193,3 @@ IsAnswer (Some f) r t result = (result ≡ Err f) × (t ≡ r)
 -- What the next call returns: the fault that was returned before, with nothing changed; or what comes next in the text.
 abbrev pub IsNext : Reading → Reading → Result (Option Token) ScriptFault → Type 0
 IsNext r t result = IsAnswer r.fault r t result
-
--- ---- names for parts of these definitions, which only proofs use
-
--- the number that the digits write, after digits that write n
-abbrev pub digits_value : ℕ → List ℕ → ℕ
-digits_value n text = fold (λ m c. m * 10 + (c - 48)) n text
-
-abbrev pub word_or_name : Option Word → List ℕ → Lexeme
-word_or_name o text = option_map_or word o (name text)
-
-abbrev pub MaySay : Directives → Shape → List ℕ → Option Lexeme → Type 0
-MaySay s k x o = MatchOption o (is_gap k ≡ true) (Says s k x)
-
-abbrev pub after_piece : Directives → Option Lexeme → Directives
-after_piece s o = option_map_or (after s) o s
-
-abbrev pub and_more : Option Lexeme → List Lexeme → List Lexeme
-and_more o ls = cons_option o ls
-
-abbrev pub put_placed : ℕ → List ℕ → Option Lexeme → List PlacedToken → List PlacedToken
-put_placed place x o ts =
-    cons_option (option_map (λ l. record { lexeme = l; text = encode_utf8_all x; start = place; end = place + byte_length x }) o) ts
-
-abbrev pub starts_star : List ℕ → Bool
-starts_star text = begins_with star text
-
-abbrev pub pair_fault : List ℕ → ℕ → ScriptFault
-pair_fault text place = fault_at wanted.Inserts text place
-
-abbrev pub token_fault : List ℕ → ℕ → ScriptFault
-token_fault text place = fault_at wanted.Token text place
-
--- a token of this kind, with these bytes and this value, has the meaning of its text
-abbrev pub HasMeaning : Directives → Shape → Kind → List ℕ → Value → Type 0
-HasMeaning s k kind text value = IsLexeme s k (chars text) (lexeme_by kind text value) × (fits kind value ≡ true)
-
--- The state after a token at this byte offset. If there is a fault, the state is as before: `BadCode` if the token gives no value to
--- its macro, or an allocation failed.
-abbrev pub AfterToken : Directives → Lexeme → ℕ → Result (Unit {0}) ScriptFault → Directives → Type 0
-AfterToken old l place result new =
-    MatchResult result (λ _. HasValue old l × (new ≡ after old l))
-    (λ f. (new ≡ old) × ((f ≡ fault.OutOfMemory) ⊎ (LacksValue old l × (f ≡ fault.BadCode place))))

@@ -6,6 +6,7 @@ ghost use Rattle.sbl_token.specs.Lexemes.{characters_in, inserts_in};
 ghost use Rattle.sbl_text.specs.Codes.{GivesCharacters};
 ghost use Rattle.sbl_text.specs.Escapes.{with_inserts};
 ghost use Rattle.sbl_text.specs.Directives as spec;
+ghost use Rattle.sbl_text.specs.inside.DirectiveParts as parts;
 
 use crate::codes::{Characters, MAX_DECIMAL_DIGITS, MAX_HEX_DIGITS, codes};
 use crate::escapes::Escapes;
@@ -101,7 +102,7 @@ fn inserts_of(value: &Value<'_>) -> (char, char)
 
 impl<'a> Directives<'a> {
     ghost use Rattle.sbl_token.specs.Lexemes.{lexeme_of};
-    ghost use Rattle.sbl_text.specs.Tokens.{AfterToken};
+    ghost use Rattle.sbl_text.specs.inside.TokenParts.{AfterToken};
 
     /// Returns the state at the start of a text.
     pub fn new(escapes: Escapes) -> Directives<'a>
@@ -129,7 +130,7 @@ impl<'a> Directives<'a> {
     }
 
     fn settle(&mut self)
-        ensures { self.new ≡ spec.no_directive self.old.escapes }
+        ensures { self.new ≡ parts.no_directive self.old.escapes }
     {
         self.wanted = Expectation::Token;
         self.defining = None;
@@ -137,7 +138,7 @@ impl<'a> Directives<'a> {
 
     /// Updates the state after a reserved word.
     pub fn after_word(&mut self, word: Word)
-        ensures { self.new ≡ spec.after_word self.old word }
+        ensures { self.new ≡ parts.after_word self.old word }
     {
         match word {
             Word::StringEscapes => {
@@ -162,7 +163,7 @@ impl<'a> Directives<'a> {
 
     /// Updates the state after two insert characters.
     pub fn after_inserts(&mut self, pair: (char, char))
-        ensures { self.new ≡ spec.no_directive (with_inserts self.old.escapes pair.0 pair.1) }
+        ensures { self.new ≡ parts.no_directive (with_inserts self.old.escapes pair.0 pair.1) }
     {
         self.escapes.set(pair.0, pair.1);
         self.settle();
@@ -188,7 +189,7 @@ impl<'a> Directives<'a> {
         characters: &[char],
         place: usize,
     ) -> Result<(), ScriptFault>
-        ensures { spec.AfterLiteral self.old characters.now place result self.new }
+        ensures { parts.AfterLiteral self.old characters.now place result self.new }
     {
         match self.defining {
             None => {

@@ -6,6 +6,7 @@ ghost use Rattle.std.specs.Str.{chars};
 ghost use Rattle.sbl_text.specs.Classes.{is_white};
 ghost use Rattle.sbl_text.specs.Escapes as escaping;
 ghost use Rattle.sbl_text.specs.Literals as spec;
+ghost use Rattle.sbl_text.specs.inside.LiteralParts as parts;
 
 use crate::classes::{CharKind, is_in};
 use crate::codes::{MAX_HEX_DIGITS, code};
@@ -42,7 +43,7 @@ fn is_blank(name: &[char]) -> bool
 /// Returns the character that an insertion names: a quote, the opening insert character, or the character with the code
 /// point after `U+`.
 fn character(inserts: Option<Inserts>, name: &[char], place: usize) -> Result<char, ScriptFault>
-    ensures { MatchResult result (λ c. spec.character_named inserts name.now ≡ Ok c) (λ f. (g : spec.Refusal) × (spec.character_named inserts name.now ≡ Err g) × (f ≡ g place)) }
+    ensures { MatchResult result (λ c. spec.character_named inserts name.now ≡ Ok c) (λ f. (g : parts.Refusal) × (spec.character_named inserts name.now ≡ Err g) × (f ≡ g place)) }
 {
     match name {
         [c] => {
@@ -70,7 +71,7 @@ fn insert(
     name: &[char],
     place: usize,
 ) -> Result<(), ScriptFault>
-    ensures { MatchResult result (λ _. spec.AddsValue escapes.now name.now value.old.items value.new.items) (λ f. (f ≡ ScriptFault.OutOfMemory) ⊎ spec.Refuses escapes.now name.now place f) }
+    ensures { MatchResult result (λ _. parts.AddsValue escapes.now name.now value.old.items value.new.items) (λ f. (f ≡ ScriptFault.OutOfMemory) ⊎ parts.Refuses escapes.now name.now place f) }
 {
     if is_blank(name) {
         return Ok(());
@@ -92,7 +93,7 @@ fn first_closing(inserts: Option<Inserts>, chars: &[char]) -> Option<usize>
 
 /// Splits the text after an opening insert character into the name, the closing character and the text after it.
 fn split_name(inserts: Option<Inserts>, chars: &[char]) -> Option<(&[char], char, &[char])>
-    ensures { MatchOption result (spec.is_closed inserts true chars.now ≡ false) (λ p. spec.IsSplit inserts chars.now p.0.now p.1 p.2.now) }
+    ensures { MatchOption result (spec.is_closed inserts true chars.now ≡ false) (λ p. parts.IsSplit inserts chars.now p.0.now p.1 p.2.now) }
 {
     let end = first_closing(inserts, chars)?;
     let (name, rest) = chars.split_at(end);

@@ -4,6 +4,7 @@ ghost use Rattle.std.specs.Prelude.{◌+◌, ◌^◌, length, ◌≡◌, ◌≤�
 ghost use Rattle.std.specs.Str.{chars};
 ghost use Rattle.sbl_text.specs.Pieces as pieces;
 ghost use Rattle.sbl_text.specs.Tokens as spec;
+ghost use Rattle.sbl_text.specs.inside.TokenParts as parts;
 ghost use Rattle.sbl_token.specs.Lexemes.{fits, lexeme_by};
 ghost use Rattle.sbl_text.specs.Directives as states;
 
@@ -42,7 +43,7 @@ fn literal<'a>(
 ) -> Result<Value<'a>, ScriptFault>
     requires has { pieces.Has state.now.escapes.inserts Shape.Literal (chars text.now) }
     requires room { place + length text.now < 2 ^ 64 }
-    ensures { MatchResult result (λ v. spec.HasMeaning state.now Shape.Literal Kind.Literal text.now v) (λ f. (f ≡ ScriptFault.OutOfMemory) ⊎ spec.IsRefused state.now Shape.Literal (chars text.now) place f) }
+    ensures { MatchResult result (λ v. parts.HasMeaning state.now Shape.Literal Kind.Literal text.now v) (λ f. (f ≡ ScriptFault.OutOfMemory) ⊎ spec.IsRefused state.now Shape.Literal (chars text.now) place f) }
 {
     let spelling = between_quotes(text);
     let letters: Vec<char> = spelling.chars().collect(alloc)?;
@@ -107,7 +108,7 @@ pub fn meaning<'a>(
     requires token { pieces.is_gap shape ≡ false }
     requires has { pieces.Has state.now.escapes.inserts shape (chars text.now) }
     requires room { place + length text.now < 2 ^ 64 }
-    ensures { MatchResult result (λ p. spec.HasMeaning state.now shape p.0 text.now p.1) (λ f. (f ≡ ScriptFault.OutOfMemory) ⊎ spec.IsRefused state.now shape (chars text.now) place f) }
+    ensures { MatchResult result (λ p. parts.HasMeaning state.now shape p.0 text.now p.1) (λ f. (f ≡ ScriptFault.OutOfMemory) ⊎ spec.IsRefused state.now shape (chars text.now) place f) }
 {
     match shape {
         Shape::Number => match number(text) {
@@ -127,7 +128,7 @@ pub fn meaning<'a>(
 }
 
 fn starts_star(text: &str) -> bool
-    ensures { result ≡ spec.starts_star (chars text.now) }
+    ensures { result ≡ parts.starts_star (chars text.now) }
 {
     match split_first(text) {
         Some((c, _)) => c == '*',
@@ -138,7 +139,7 @@ fn starts_star(text: &str) -> bool
 /// Returns the fault if insert characters are expected but not there.
 fn pair_fault(text: &str, place: usize) -> ScriptFault
     requires { place + length text.now < 2 ^ 64 }
-    ensures { result ≡ spec.pair_fault (chars text.now) place }
+    ensures { result ≡ parts.pair_fault (chars text.now) place }
 {
     match split_first(text) {
         Some((c, rest)) => {

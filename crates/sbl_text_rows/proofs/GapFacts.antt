@@ -11,7 +11,8 @@ use Rattle.sbl_text.specs.declared.pieces.Start.TheVariants as start
 use Rattle.sbl_text.specs.declared.escapes.Inserts.{Inserts}
 use Rattle.sbl_text.specs.Classes.{is_white, is_letter, is_digit}
 use Rattle.sbl_text.specs.Literals.{byte_length}
-use Rattle.sbl_text.specs.Pieces.{AreGaps, Gap, IsPiece, NoPiece, is_gap, may_come, setting}
+use Rattle.sbl_text.specs.Pieces.{AreGaps, Gap, IsPiece, NoPiece, is_gap, may_come}
+use Rattle.sbl_text.specs.inside.PieceParts.{setting}
 use Rattle.sbl_text.specs.Scan.{FirstPiece, IsCutFrom, cut, cut_as, cut_at, past_block, past_literal, sign_cut, slash_cut}
 use Rattle.sbl_text.specs.Skip.{past}
 use Rattle.sbl_text.proofs.Lists.{bytes_append}

@@ -15,7 +15,8 @@ use Rattle.sbl_text.specs.declared.pieces.Expectation.TheVariants as wanted
 use Rattle.sbl_text.specs.declared.escapes.Inserts.{Inserts}
 use Rattle.sbl_text.specs.Directives.{Directives, after, setting_of, start}
 use Rattle.sbl_text.specs.Literals.{byte_length}
-use Rattle.sbl_text.specs.Pieces.{AreGaps, Gap, IsPiece, NoPiece, is_gap, setting}
+use Rattle.sbl_text.specs.Pieces.{AreGaps, Gap, IsPiece, NoPiece, is_gap}
+use Rattle.sbl_text.specs.inside.PieceParts.{setting}
 use Rattle.sbl_text.specs.Tokens.{AreCut, HasValue, IsFault, IsLexeme, IsNext, IsRefused, IsToken, Piece, Reading, Stops, beginning}
 use Rattle.sbl_text.proofs.Lists.{bytes_append, cut_append, cut_total, next_advances, next_shorter, still_none, total}
 use Rattle.sbl_text_rows.specs.Gaps.{cut_gap, gap_lines}

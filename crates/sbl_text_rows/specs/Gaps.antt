@@ -6,7 +6,8 @@ use Rattle.sbl_text.specs.Classes.{is_white, line_feed, slash, star}
 use Rattle.sbl_text.specs.Literals.{byte_length}
 use Rattle.sbl_text.specs.declared.escapes.Inserts.{Inserts}
 use Rattle.sbl_text.specs.declared.pieces.Expectation.TheVariants as wanted
-use Rattle.sbl_text.specs.Pieces.{AreGaps, Gap, setting}
+use Rattle.sbl_text.specs.Pieces.{AreGaps, Gap}
+use Rattle.sbl_text.specs.inside.PieceParts.{setting}
 use Rattle.sbl_text.specs.Scan.{past_block}
 use Rattle.sbl_text.specs.Skip.{past}
 use Rattle.sbl_text_rows.specs.Rows.{line_if}

@@ -3,7 +3,8 @@
 ghost use Rattle.std.specs.Prelude.{◌≡◌, ◌≤◌, ◌<◌, ◌-◌, List, MatchOption, nat_eq};
 ghost use Rattle.sbl_ast.specs.Counts as spec;
 ghost use Rattle.sbl_ast.specs.Tree as trees;
-ghost use Rattle.sbl_ast.specs.View.{view_among, view_command, view_groups, view_others, view_row, view_rows};
+ghost use Rattle.sbl_ast.specs.View.{view_among, view_command, view_row};
+ghost use Rattle.sbl_ast.specs.inside.ViewParts.{view_groups, view_others, view_rows};
 
 use sbl_ast::{Among, Command, Group, NextCommand, RowOfCommands};
 

@@ -8,7 +8,8 @@ ghost use Rattle.sbl_tree_amongs.specs.WalkEnds.{Finds, among_command, amongs_of
 ghost use Rattle.sbl_ast.specs.Places.{placed_command, placed_groups, placed_others, placed_rows, placed_starter, max_depth, AreShallow};
 ghost use Rattle.sbl_ast.specs.Texts.{body, places_in};
 ghost use Rattle.sbl_ast.specs.Tree as trees;
-ghost use Rattle.sbl_ast.specs.View.{view_among, view_command, view_groups, view_others, view_row, view_rows};
+ghost use Rattle.sbl_ast.specs.View.{view_among, view_command, view_row};
+ghost use Rattle.sbl_ast.specs.inside.ViewParts.{view_groups, view_others, view_rows};
 
 use sbl_ast::{Among, Command, Group, NextCommand, RowOfCommands};
 

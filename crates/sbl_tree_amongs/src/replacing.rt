@@ -6,7 +6,8 @@ ghost use Rattle.sbl_tree_amongs.specs.Amongs.{FitsAt, amongs_of_body, put_in_am
 ghost use Rattle.sbl_tree_amongs.specs.Amongs as spec;
 ghost use Rattle.sbl_ast.specs.Places.{AreShallow};
 ghost use Rattle.sbl_ast.specs.Texts.{body, places_in};
-ghost use Rattle.sbl_ast.specs.View.{view_among, view_command, view_groups, view_others, view_row, view_rows};
+ghost use Rattle.sbl_ast.specs.View.{view_among, view_command, view_row};
+ghost use Rattle.sbl_ast.specs.inside.ViewParts.{view_groups, view_others, view_rows};
 ghost use Rattle.sbl_ast.specs.Tree as trees;
 
 use sbl_ast::{

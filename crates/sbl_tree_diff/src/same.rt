@@ -7,7 +7,8 @@ ghost use Rattle.std.specs.Option.{option_eq};
 ghost use Rattle.std.specs.Str.{bytes_eq};
 ghost use denote.Enum.Bare.{sameb};
 ghost use Rattle.sbl_ast.specs.contracts.tree.Base as base;
-ghost use Rattle.sbl_ast.specs.View.{view_argument, view_entry, view_expression, view_factor, view_group, view_literal, view_name, view_product, view_scales, view_sums, view_term};
+ghost use Rattle.sbl_ast.specs.View.{view_argument, view_entry, view_expression, view_literal, view_term};
+ghost use Rattle.sbl_ast.specs.inside.ViewParts.{view_factor, view_group, view_name, view_product, view_scales, view_sums};
 ghost use Rattle.sbl_semantics.specs.Same as spec;
 
 use sbl_ast::{

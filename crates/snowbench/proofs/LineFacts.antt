@@ -2,7 +2,7 @@
 use Rattle.std.proofs.Common.{◌≡◌, ◌≢◌, ◌∙◌, ◌++◌, ◌==◌, ◌-◌, ℕ, suc, zero, Bool, true, false, List, [], ◌∷◌, refl, sym, ap, subst, map, length, take, length-append, append_assoc, slice_index_or, arith}
 use Rattle.std.proofs.lemmas.List.Concat.{flat_map-cons}
 use Rattle.std.specs.Prelude.{⊤, if◌then◌else◌}
-use Rattle.sbl_io.specs.HeldInput.{NoFeed}
+use Rattle.sbl_io.specs.inside.LineSteps.{NoFeed}
 use Rattle.sbl_io.specs.LinesOf.{without_carriage_return, lines_of, onto_first, raw_lines}
 use Rattle.sbl_io.proofs.Bytes.{lines-feed, no_feed_push, none_of, no_lines, raw-feed, raw-other}
 use Rattle.snowbench.specs.WholeCheck.{ListsAreRead, list_text}

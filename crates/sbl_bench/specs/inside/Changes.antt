@@ -10,9 +10,10 @@ use Rattle.sbl_machine.specs.EditedItem.{edited_item}
 use Rattle.sbl_machine.specs.declared.outcome.RunTrace.{RunTrace}
 use Rattle.sbl_semantics.specs.declared.touch.Touch.{Touch}
 use Rattle.sbl_semantics.specs.Outcome.{Outcome', outcome_of, run_of, touches_of, used_of}
-use Rattle.sbl_bench.specs.KeptRuns.{KeptWord, IsFresh, words_in}
+use Rattle.sbl_bench.specs.inside.KeptEntries.{KeptWord, IsFresh, words_in}
 use Rattle.sbl_bench.specs.inside.Pairs.{Text, find}
-use Rattle.sbl_rows.specs.Setting.{Setting, RunsSame, under}
+use Rattle.sbl_rows.specs.Setting.{Setting, under}
+use Rattle.sbl_rows.specs.inside.SameRuns.{RunsSame}
 use Rattle.sbl_bench.specs.inside.AffectedWords.{AffectedWords, Touching, Above, Every, is_affected, is_affected_run}
 use Rattle.sbl_bench.specs.Contents.{Contents}
 use Rattle.sbl_bench.specs.Edits.{Edit, Remove, Replace, IsSettingAfter, PassesTests, needs_run, words_after}

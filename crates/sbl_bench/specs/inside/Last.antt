@@ -5,7 +5,7 @@ use Rattle.std.specs.Option.{option_and_then}
 use Rattle.sbl_semantics.specs.Outcome.{outcome_of, run_of}
 use Rattle.sbl_machine.specs.declared.outcome.RunTrace.{RunTrace}
 use Rattle.sbl_rows.specs.ChangedRows.{ChangedRow, if_changed}
-use Rattle.sbl_bench.specs.KeptRuns.{KeptWord}
+use Rattle.sbl_bench.specs.inside.KeptEntries.{KeptWord}
 use Rattle.sbl_bench.specs.inside.Changes.{is_changed}
 use Rattle.sbl_bench.specs.inside.Pairs.{Text, find}
 use Rattle.sbl_rows.specs.Setting.{Setting}

@@ -6,7 +6,7 @@ use Rattle.std.specs.BTreeSet.{BTreeSet}
 use Rattle.sbl_machine.specs.declared.outcome.RunTrace.{RunTrace}
 use Rattle.sbl_semantics.specs.Outcome.{outcome_of}
 use Rattle.sbl_rows.specs.Classes.{is_stem}
-use Rattle.sbl_bench.specs.KeptRuns.{KeptWord}
+use Rattle.sbl_bench.specs.inside.KeptEntries.{KeptWord}
 pub use Rattle.indexmap.specs.IndexMap.{IsUnique, keys}
 pub use Rattle.sbl_rows.specs.Pairs.{IsFollowed, Key, Text, has, is_pair_of, key_cmp, plain, same_text}
 

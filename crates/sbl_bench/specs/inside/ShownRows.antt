@@ -3,7 +3,7 @@ use Rattle.std.specs.Prelude.{ℕ, List}
 use Rattle.sbl_machine.specs.declared.outcome.RunTrace.{RunTrace}
 use Rattle.sbl_semantics.specs.Outcome.{outcome_of}
 use Rattle.sbl_rows.specs.Rows.{Row}
-use Rattle.sbl_bench.specs.KeptRuns.{KeptWord}
+use Rattle.sbl_bench.specs.inside.KeptEntries.{KeptWord}
 
 -- the row of a word that has this run
 abbrev pub run_row : List ℕ → RunTrace → Row

@@ -6,7 +6,8 @@ ghost use Rattle.sbl_run_state.specs.Endings.{Leads};
 ghost use Rattle.sbl_semantics.specs.State.{max_text_length};
 ghost use Rattle.sbl_semantics.specs.Control.{limits, limit_here, limit_back, backwards_from, backwards_end, back_in, enter};
 ghost use Rattle.sbl_semantics.specs.Moves.{touch_grouping};
-ghost use Rattle.sbl_semantics.specs.Choices.{choose, choice, take_none, take_string, touch_among};
+ghost use Rattle.sbl_semantics.specs.Choices.{choice, take_none, take_string, touch_among};
+ghost use Rattle.sbl_semantics.specs.inside.ChoiceParts.{choose};
 ghost use Rattle.sbl_program.specs.Search.{bound_in};
 
 use crate::choices::Choices;

@@ -9,7 +9,8 @@ ghost use Rattle.sbl_semantics.specs.State.{Signals, ahead, room, move_cursor};
 ghost use Rattle.sbl_program.specs.ProgramOf.{view_text};
 ghost use Rattle.sbl_program.specs.Arithmetic.{characters};
 ghost use Rattle.sbl_run_state.specs.Endings.{Leads};
-ghost use Rattle.sbl_semantics.specs.Moves.{match, next_is, one_of, next, hop, at_limit, set_mark, at_mark, to_mark, set_boolean, test_boolean};
+ghost use Rattle.sbl_semantics.specs.Moves.{match, one_of, next, hop, at_limit, set_mark, at_mark, to_mark, set_boolean, test_boolean};
+ghost use Rattle.sbl_semantics.specs.inside.MoveParts.{next_is};
 
 use crate::halt::Halt;
 use crate::state::State;

@@ -11,7 +11,7 @@ ghost use Rattle.sbl_run_state.specs.Seeking.{count_before, seek_ending};
 ghost use Rattle.sbl_semantics.specs.Fitting.{read_as};
 ghost use Rattle.sbl_semantics.specs.Touches.{with_touch};
 ghost use Rattle.sbl_semantics.specs.declared.touch.Touch.TheVariants.{Tested};
-ghost use Rattle.sbl_semantics.specs.Moves.{next_is};
+ghost use Rattle.sbl_semantics.specs.inside.MoveParts.{next_is};
 ghost use Rattle.sbl_semantics.specs.State.{Signals, ahead, move_cursor, room};
 
 use crate::halt::Halt;

@@ -1,5 +1,5 @@
 use Rattle.std.proofs.Common.{◌≡◌, ◌++◌, drop, map}
-use Rattle.sbl_ast.specs.View.{view_next_product, view_next_factor}
+use Rattle.sbl_ast.specs.inside.ViewParts.{view_next_product, view_next_factor}
 use Rattle.sbl_ast.proofs.copies.+arithmetic_copies.Given as goal
 
 abbrev pub invariant-copy_scales-loop-other : goal.invariant-copy_scales-loop-other

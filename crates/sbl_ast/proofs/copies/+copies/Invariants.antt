@@ -1,5 +1,6 @@
 use Rattle.std.proofs.Common.{◌≡◌, ◌++◌, drop, map}
-use Rattle.sbl_ast.specs.View.{view_row, view_group, view_next_command}
+use Rattle.sbl_ast.specs.View.{view_row}
+use Rattle.sbl_ast.specs.inside.ViewParts.{view_group, view_next_command}
 use Rattle.sbl_ast.proofs.copies.+copies.Given as goal
 
 abbrev pub invariant-copy_rows-loop-row : goal.invariant-copy_rows-loop-row

@@ -1,5 +1,6 @@
 use Rattle.std.proofs.Common.{◌≡◌, ◌++◌, drop, map}
-use Rattle.sbl_ast.specs.Order.{in_mode, view_in_mode}
+use Rattle.sbl_ast.specs.Order.{view_in_mode}
+use Rattle.sbl_ast.specs.inside.OrderParts.{in_mode}
 use Rattle.sbl_ast.specs.View.{view_plain}
 use Rattle.sbl_ast.proofs.order.put_in_mode.Given as goal
 

@@ -4,7 +4,7 @@ use Rattle.std.proofs.lemmas.List.{length-map}
 use Rattle.std.specs.Str.{bytes_eq}
 use Rattle.sbl_bench.specs.inside.Last.{Follows, last_changes, word_found, word_run}
 use Rattle.sbl_bench.specs.inside.Changes.{is_changed}
-use Rattle.sbl_bench.specs.KeptRuns.{KeptWord}
+use Rattle.sbl_bench.specs.inside.KeptEntries.{KeptWord}
 use Rattle.sbl_bench.specs.inside.Pairs.{Text, find}
 use Rattle.sbl_bench.specs.declared.change.Change.{Change}
 use Rattle.sbl_bench.proofs.ChangeFacts.{all_fresh, fresh_list, words_kept, take_overwritten}

@@ -4,7 +4,7 @@ use Rattle.sbl_ast.specs.Source.{Source}
 use Rattle.sbl_machine.specs.MachineOf.{IsLinkedMachineOf}
 use Rattle.sbl_semantics.specs.Limit.{default_limit}
 use Rattle.sbl_rows.specs.Setting.{under}
-use Rattle.sbl_bench.specs.KeptRuns.{IsKept}
+use Rattle.sbl_bench.specs.inside.KeptEntries.{IsKept}
 use Rattle.sbl_bench.proofs.Opening.{IsOpening}
 use Rattle.sbl_bench.proofs.open.first_runs.Given as goal
 

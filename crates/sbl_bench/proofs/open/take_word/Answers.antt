@@ -5,7 +5,8 @@ use Rattle.indexmap.specs.Entry.{map_with_value}
 use Rattle.sbl_ast.specs.Source.{Source}
 use Rattle.sbl_machine.specs.MachineOf.{IsLinkedMachineOf}
 use Rattle.sbl_semantics.specs.Outcome.{outcome_of, run_of, touches_of, used_of}
-use Rattle.sbl_bench.specs.KeptRuns.{words_in, IsKept, IsWord}
+use Rattle.sbl_bench.specs.KeptRuns.{IsWord}
+use Rattle.sbl_bench.specs.inside.KeptEntries.{words_in, IsKept}
 use Rattle.sbl_semantics.specs.Limit.{default_limit}
 use Rattle.sbl_rows.specs.Setting.{under}
 use Rattle.sbl_bench.specs.Contents.{word_fault}

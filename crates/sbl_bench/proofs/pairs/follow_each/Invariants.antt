@@ -1,5 +1,5 @@
 use Rattle.std.proofs.Common.{drop, List}
-use Rattle.sbl_bench.specs.KeptRuns.{KeptWord}
+use Rattle.sbl_bench.specs.inside.KeptEntries.{KeptWord}
 use Rattle.sbl_bench.specs.inside.Last.{Follows}
 use Rattle.sbl_bench.specs.inside.Pairs.{ArePaired}
 use Rattle.sbl_bench.proofs.Following.{AreFollowedSoFar}

@@ -1,7 +1,7 @@
 use Rattle.std.proofs.Common.{rules, ◌≡◌, ◌∙◌, ◌||◌, ◌∷◌, ℕ, List, ap}
 use Rattle.sbl_semantics.specs.Outcome.{outcome_of}
 use Rattle.sbl_semantics.specs.declared.outcome.Outcome.{Outcome}
-use Rattle.sbl_bench.specs.KeptRuns.{KeptWord}
+use Rattle.sbl_bench.specs.inside.KeptEntries.{KeptWord}
 use Rattle.sbl_bench.specs.inside.Pairs.{has, is_pair_of}
 use Rattle.sbl_bench.proofs.PairFacts.{distinct_after, paired_more}
 use Rattle.sbl_bench.proofs.pairs.pairs_of.Goals as goal

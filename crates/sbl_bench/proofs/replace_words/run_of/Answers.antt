@@ -1,7 +1,7 @@
 use Rattle.std.proofs.Common.{◌≤◌, ◌+◌, ◌∙◌, ℕ, Result, Ok, Err, OnErr, OnOk, arith, ap, subst, sym}
 use Rattle.std.proofs.lemmas.Result.{on_ok_weaker}
 use Rattle.sbl_rows.specs.Setting.{under}
-use Rattle.sbl_bench.specs.KeptRuns.{words_in}
+use Rattle.sbl_bench.specs.inside.KeptEntries.{words_in}
 use Rattle.sbl_bench.proofs.Listing.{copied_fresh, no_run_of, one_run_of}
 use Rattle.sbl_bench.proofs.Tracing.{fresh_found, is_there, not_there}
 use Rattle.sbl_bench.proofs.replace_words.run_of.Goals as goal

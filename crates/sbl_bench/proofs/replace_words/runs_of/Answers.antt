@@ -4,7 +4,7 @@ use Rattle.sbl_rows.specs.KnownOutcomes.{Text}
 use Rattle.sbl_rows.specs.Setting.{under}
 use Rattle.sbl_rows.proofs.Loops.{next, so_far}
 use Rattle.sbl_rows.proofs.SetFacts.{no_text}
-use Rattle.sbl_bench.specs.KeptRuns.{words_in}
+use Rattle.sbl_bench.specs.inside.KeptEntries.{words_in}
 use Rattle.sbl_bench.specs.inside.WordLists.{new_words, runs_of_word}
 use Rattle.sbl_bench.proofs.Listing.{new_after, new_count_at, sound_at}
 use Rattle.sbl_bench.proofs.replace_words.runs_of.Goals as goal

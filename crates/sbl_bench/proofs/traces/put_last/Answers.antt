@@ -4,7 +4,7 @@ use Rattle.std.specs.Str.{bytes_eq}
 use Rattle.std.specs.declared.vec.Vec.{Vec}
 use Rattle.std.specs.declared.alloc.Global.{Global}
 use Rattle.sbl_semantics.specs.Outcome.{outcome_of, run_of, touches_of, used_of}
-use Rattle.sbl_bench.specs.KeptRuns.{KeptWord, words_in, IsKept}
+use Rattle.sbl_bench.specs.inside.KeptEntries.{KeptWord, words_in, IsKept}
 use Rattle.sbl_bench.specs.inside.Pairs.{IsOneMore}
 use Rattle.sbl_rows.specs.Setting.{under}
 use Rattle.indexmap.proofs.CallerLemmas.{insert_entry-new}

@@ -1,6 +1,7 @@
 use Rattle.std.proofs.Common.{◌∙◌, ◌+◌, ap, drop, map, sym}
 use Rattle.sbl_ast.specs.Tree as trees
-use Rattle.sbl_ast.specs.View.{view_entry, view_groups}
+use Rattle.sbl_ast.specs.View.{view_entry}
+use Rattle.sbl_ast.specs.inside.ViewParts.{view_groups}
 use Rattle.sbl_ast.specs.declared.tree.Group.{out-Group}
 use Rattle.sbl_compiler.specs.NumberedAmongs.{entries_after, entries_in}
 use Rattle.sbl_compiler.specs.NumberedView.{view_names}

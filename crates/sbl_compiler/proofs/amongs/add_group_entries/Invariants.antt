@@ -1,6 +1,6 @@
 use Rattle.std.proofs.Common.{◌≡◌, drop, List}
 use Rattle.sbl_ast.specs.Tree as trees
-use Rattle.sbl_ast.specs.View.{view_groups}
+use Rattle.sbl_ast.specs.inside.ViewParts.{view_groups}
 use Rattle.sbl_compiler.specs.NumberedAmongs.{entries_after}
 use Rattle.sbl_compiler.specs.NumberedView.{view_names}
 use Rattle.sbl_compiler.proofs.amongs.add_group_entries.Given as goal

@@ -1,6 +1,6 @@
 use Rattle.std.proofs.Common.{◌≡◌, drop, List, []}
 use Rattle.sbl_ast.specs.Tree as trees
-use Rattle.sbl_ast.specs.View.{view_groups}
+use Rattle.sbl_ast.specs.inside.ViewParts.{view_groups}
 use Rattle.sbl_compiler.specs.NumberedAmongs.{strings_after}
 use Rattle.sbl_program.specs.FoundView.{texts}
 use Rattle.sbl_compiler.proofs.amongs.strings_of.Given as goal

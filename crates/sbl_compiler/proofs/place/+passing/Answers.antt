@@ -1,6 +1,6 @@
 use Rattle.std.proofs.Common.{◌∙◌, ◌+◌, ap, drop, sym}
 use Rattle.sbl_ast.specs.Tree as trees
-use Rattle.sbl_ast.specs.View.{view_groups, view_others, view_rows}
+use Rattle.sbl_ast.specs.inside.ViewParts.{view_groups, view_others, view_rows}
 use Rattle.sbl_ast.specs.declared.tree.Group.{out-Group}
 use Rattle.sbl_compiler.specs.NumberedItems.{past_groups, past_others, past_rows}
 use Rattle.sbl_compiler.specs.NumberedView.{view_place}

@@ -1,6 +1,6 @@
 use Rattle.std.proofs.Common.{◌≡◌, drop, List}
 use Rattle.sbl_ast.specs.Tree as trees
-use Rattle.sbl_ast.specs.View.{view_groups, view_others, view_rows}
+use Rattle.sbl_ast.specs.inside.ViewParts.{view_groups, view_others, view_rows}
 use Rattle.sbl_explain.specs.GatheredGroups.{gathered_groups, gathered_others, gathered_rows}
 use Rattle.sbl_explain.specs.UnusedViews.{view_amongs}
 use Rattle.sbl_explain.proofs.amongs.+list.Given as goal

@@ -1,6 +1,6 @@
 use Rattle.std.proofs.Common.{◌≡◌, ◌++◌, drop, List}
 use Rattle.sbl_ast.specs.Tree as trees
-use Rattle.sbl_ast.specs.View.{view_groups}
+use Rattle.sbl_ast.specs.inside.ViewParts.{view_groups}
 use Rattle.sbl_explain.specs.Parts.{strings_of}
 use Rattle.sbl_explain.specs.UnusedViews.{texts_of}
 use Rattle.sbl_explain.proofs.amongs.add_group_strings.Given as goal

@@ -1,5 +1,5 @@
 use Rattle.std.proofs.Common.{◌≤◌, length, take}
-use Rattle.sbl_io.specs.HeldInput.{NoFeed}
+use Rattle.sbl_io.specs.inside.LineSteps.{NoFeed}
 use Rattle.sbl_io.proofs.text_lines.first_feed.Given as goal
 
 abbrev pub invariant-loop-at : goal.invariant-loop-at

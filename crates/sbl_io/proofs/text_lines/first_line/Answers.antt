@@ -1,6 +1,6 @@
 use Rattle.std.proofs.Common.{rules, arith, ◌≡◌, ◌∙◌, ◌<◌, ◌+◌, ◌∷◌, ℕ, List, length, take, drop, sym, ap, subst}
 use Rattle.std.proofs.lemmas.List.{take_all}
-use Rattle.sbl_io.specs.HeldInput.{NoFeed}
+use Rattle.sbl_io.specs.inside.LineSteps.{NoFeed}
 use Rattle.sbl_io.specs.LinesOf.{without_carriage_return, lines_of}
 use Rattle.sbl_io.proofs.TextFacts.{empty_text, lines_at_end, lines_at_feed, no_rest, no_text, rest_of}
 use Rattle.sbl_io.proofs.text_lines.first_line.Goals as goal

@@ -1,6 +1,6 @@
 use Rattle.std.proofs.Common.{◌≡◌, ◌∷◌, ◌*◌, ◌-◌, ◌+◌, length}
 use Rattle.sbl_ast.specs.Spelled as written
-use Rattle.sbl_ast.specs.View as view
+use Rattle.sbl_ast.specs.inside.ViewParts as view_parts
 use Rattle.sbl_parser.specs.Gives.{ahead}
 use Rattle.sbl_parser.specs.Steps as wanted
 use Rattle.sbl_parser.proofs.arithmetic.+arithmetic.Given as goal
@@ -22,7 +22,7 @@ decreases-product l = 4 * (70 - l.depth) + 2
 
 abbrev pub invariant-expression-loop-operator : goal.invariant-expression-loop-operator
 invariant-expression-loop-operator l = record {
-  spelled : ahead l.fn.cursor ≡ written.spelled_product (view.view_product l.first) (written.spelled_sums (view.view_sums l.others.items) (ahead l.cursor));
+  spelled : ahead l.fn.cursor ≡ written.spelled_product (view_parts.view_product l.first) (written.spelled_sums (view_parts.view_sums l.others.items) (ahead l.cursor));
   faults : (k : wanted.Stack) → wanted.fault (ahead l.fn.cursor) (wanted.expression l.depth k) ≡ wanted.fault (ahead l.cursor) (wanted.sums l.depth ∷ k);
 }
 
@@ -31,7 +31,7 @@ decreases-expression-loop-operator l = length (ahead l.cursor)
 
 abbrev pub invariant-product-loop-operator : goal.invariant-product-loop-operator
 invariant-product-loop-operator l = record {
-  spelled : ahead l.fn.cursor ≡ written.spelled_factor (view.view_factor l.first) (written.spelled_scales (view.view_scales l.others.items) (ahead l.cursor));
+  spelled : ahead l.fn.cursor ≡ written.spelled_factor (view_parts.view_factor l.first) (written.spelled_scales (view_parts.view_scales l.others.items) (ahead l.cursor));
   faults : (k : wanted.Stack) → wanted.fault (ahead l.fn.cursor) (wanted.factor l.depth ∷ wanted.scales l.depth ∷ k) ≡ wanted.fault (ahead l.cursor) (wanted.scales l.depth ∷ k);
 }
 

@@ -12,6 +12,7 @@ use Rattle.sbl_ast.specs.Terminal as t
 use Rattle.sbl_ast.specs.Tree as trees
 use Rattle.sbl_ast.specs.Spelled as written
 use Rattle.sbl_ast.specs.View as view
+use Rattle.sbl_ast.specs.inside.ViewParts as view_parts
 use Rattle.sbl_parser.specs.declared.role.Role.{Role}
 use Rattle.sbl_parser.specs.First.{first_literal}
 use Rattle.sbl_parser.specs.declared.error.ReadError.{ReadError}
@@ -131,10 +132,10 @@ pub row-loop-joiner-preserved : goal.row-loop-joiner-preserved
 row-loop-joiner-preserved t_ c =
     let first : ahead c.loop-joiner.cursor ≡ t.joiner c.in-Joiner.joiner ∷ ahead c.skip.new.self = d.head_of_drop (ahead c.loop-joiner.cursor) (ahead c.skip.new.self) (t.joiner c.in-Joiner.joiner) (of_role.as_terminal (ahead c.loop-joiner.cursor) (t.joiner c.in-Joiner.joiner) refl (sym c.role.ensures ∙ c.in-Joiner.is)) c.skip.ensures in
     let last : view.NextCommandView = (c.in-Joiner.joiner, view.view_command c.in-Ok.command) in
-    let more : map view.view_next_command c.push.new.self.items ≡ map view.view_next_command c.loop-joiner.others.items ++ last ∷ [] = ap (λ (xs : List NextCommand). map view.view_next_command xs) c.in-Ok-push.ensures.items ∙ map_push view.view_next_command c.loop-joiner.others.items _ ∙ ap (λ (x : view.NextCommandView). map view.view_next_command c.loop-joiner.others.items ++ x ∷ []) (views.view_of_next_command (record { joiner = c.in-Joiner.joiner; command = c.in-Ok.command })) in
+    let more : map view_parts.view_next_command c.push.new.self.items ≡ map view_parts.view_next_command c.loop-joiner.others.items ++ last ∷ [] = ap (λ (xs : List NextCommand). map view_parts.view_next_command xs) c.in-Ok-push.ensures.items ∙ map_push view_parts.view_next_command c.loop-joiner.others.items _ ∙ ap (λ (x : view.NextCommandView). map view_parts.view_next_command c.loop-joiner.others.items ++ x ∷ []) (views.view_of_next_command (record { joiner = c.in-Joiner.joiner; command = c.in-Ok.command })) in
     record {
       shallow = c.loop-joiner.invariant.shallow;
-      spelled = turns.next_joined (written.spelled_command (view.view_command _)) (map view.view_next_command c.loop-joiner.others.items) (map view.view_next_command c.push.new.self.items) last _ (ahead c.loop-joiner.cursor) (ahead c.command-in-Joiner.new.cursor) c.loop-joiner.invariant.spelled (first ∙ ap (λ (r : List Terminal). t.joiner c.in-Joiner.joiner ∷ r) c.in-Ok.ensures.gives.0) more;
+      spelled = turns.next_joined (written.spelled_command (view.view_command _)) (map view_parts.view_next_command c.loop-joiner.others.items) (map view_parts.view_next_command c.push.new.self.items) last _ (ahead c.loop-joiner.cursor) (ahead c.command-in-Joiner.new.cursor) c.loop-joiner.invariant.spelled (first ∙ ap (λ (r : List Terminal). t.joiner c.in-Joiner.joiner ∷ r) c.in-Ok.ensures.gives.0) more;
       faults = λ k. c.loop-joiner.invariant.faults k ∙ d.goes_on (ahead c.loop-joiner.cursor) (t.joiner c.in-Joiner.joiner) (ahead c.skip.new.self) (s.others c.args.depth ∷ k) (s.command c.args.depth ∷ s.others c.args.depth ∷ k) c.args.depth first refl c.loop-joiner.invariant.shallow ∙ c.in-Ok.ensures.gives.1 (s.others c.args.depth ∷ k);
     }
 
@@ -143,10 +144,10 @@ groups-loop-cursor-preserved t_ c =
     let now : List Terminal = ahead c.loop-cursor.cursor in
     let first : ahead c.loop-cursor.cursor ≡ t.literal (first_literal c.loop-cursor.cursor.tokens.now) ∷ drop 1 (ahead c.loop-cursor.cursor) = of_role.as_literal c.loop-cursor.cursor.tokens.now (sym c.role.ensures ∙ c.in-Literal.is) in
     let second : ahead c.entries.new.cursor ≡ t.open_ ∷ ahead c.skip.new.self = d.head_of_drop (ahead c.entries.new.cursor) (ahead c.skip.new.self) t.open_ (of_role.as_terminal (ahead c.entries.new.cursor) t.open_ refl (sym c.role-in-Literal.ensures ∙ c.in-Open.is)) c.skip.ensures in
-    let last : view.GroupView = record { first = view.view_entry c.in_ok-first.first; others = map view.view_entry c.in_ok-others.others.items; rows = view.view_rows c.in_ok-rows-in-Open.rows.items } in
-    let more : map view.view_group c.push.new.self.items ≡ map view.view_group c.loop-cursor.groups.items ++ last ∷ [] = ap (λ (xs : List Group). map view.view_group xs) c.in_ok-push-in-Open.ensures.items ∙ map_push view.view_group c.loop-cursor.groups.items _ ∙ ap (λ (x : view.GroupView). map view.view_group c.loop-cursor.groups.items ++ x ∷ []) (views.view_of_group (record { first = c.in_ok-first.first; others = c.in_ok-others.others; rows = c.in_ok-rows-in-Open.rows })) in
+    let last : view.GroupView = record { first = view.view_entry c.in_ok-first.first; others = map view.view_entry c.in_ok-others.others.items; rows = view_parts.view_rows c.in_ok-rows-in-Open.rows.items } in
+    let more : map view_parts.view_group c.push.new.self.items ≡ map view_parts.view_group c.loop-cursor.groups.items ++ last ∷ [] = ap (λ (xs : List Group). map view_parts.view_group xs) c.in_ok-push-in-Open.ensures.items ∙ map_push view_parts.view_group c.loop-cursor.groups.items _ ∙ ap (λ (x : view.GroupView). map view_parts.view_group c.loop-cursor.groups.items ++ x ∷ []) (views.view_of_group (record { first = c.in_ok-first.first; others = c.in_ok-others.others; rows = c.in_ok-rows-in-Open.rows })) in
     record {
-      spelled = c.loop-cursor.invariant.spelled ∙ ap (λ (r : List Terminal). written.spelled_groups (view.groups_of (map view.view_group c.loop-cursor.groups.items) []) r) (c.in_ok-first.ensures.spelled ∙ ap (λ (r : List Terminal). written.spelled_entry (view.view_entry c.in_ok-first.first) r) (c.in_ok-others.ensures.spelled ∙ ap (λ (r : List Terminal). written.spelled_entries (map view.view_entry c.in_ok-others.others.items) r) (second ∙ ap (λ (r : List Terminal). t.open_ ∷ r) c.in_ok-rows-in-Open.ensures.0))) ∙ sym (turns.groups_push (map view.view_group c.loop-cursor.groups.items) last (ahead c.block.new.cursor)) ∙ ap (λ (xs : List view.GroupView). written.spelled_groups (view.groups_of xs []) (ahead c.block.new.cursor)) (sym more);
+      spelled = c.loop-cursor.invariant.spelled ∙ ap (λ (r : List Terminal). written.spelled_groups (view_parts.groups_of (map view_parts.view_group c.loop-cursor.groups.items) []) r) (c.in_ok-first.ensures.spelled ∙ ap (λ (r : List Terminal). written.spelled_entry (view.view_entry c.in_ok-first.first) r) (c.in_ok-others.ensures.spelled ∙ ap (λ (r : List Terminal). written.spelled_entries (map view.view_entry c.in_ok-others.others.items) r) (second ∙ ap (λ (r : List Terminal). t.open_ ∷ r) c.in_ok-rows-in-Open.ensures.0))) ∙ sym (turns.groups_push (map view_parts.view_group c.loop-cursor.groups.items) last (ahead c.block.new.cursor)) ∙ ap (λ (xs : List view.GroupView). written.spelled_groups (view_parts.groups_of xs []) (ahead c.block.new.cursor)) (sym more);
       faults = λ k. c.loop-cursor.invariant.faults k ∙ d.goes_on now (t.literal (first_literal c.loop-cursor.cursor.tokens.now)) (drop 1 now) (s.groups c.args.depth ∷ k) (s.condition c.args.depth ∷ s.entries c.args.depth ∷ k) c.args.depth first refl (omega arith) ∙ c.in_ok-first.ensures.faults (s.entries c.args.depth ∷ k) ∙ c.in_ok-others.ensures.faults k ∙ d.goes_on (ahead c.entries.new.cursor) t.open_ (ahead c.skip.new.self) (s.entries c.args.depth ∷ k) (s.rows (c.args.depth + 1 + 1) ∷ s.closing (c.args.depth + 1) ∷ s.groups c.args.depth ∷ k) (c.args.depth + 1) second refl (omega arith) ∙ c.in_ok-rows-in-Open.ensures.1 (s.groups c.args.depth ∷ k);
     }
 
@@ -154,13 +155,13 @@ pub groups-loop-cursor-smaller : goal.groups-loop-cursor-smaller
 groups-loop-cursor-smaller t_ c =
     turns.through (ahead c.loop-cursor.cursor) (ahead c.entry.new.cursor) (ahead c.block.new.cursor) (subst (λ (r : List Terminal). length (ahead c.entry.new.cursor) < length r) (sym c.in_ok-first.ensures.spelled) (lengths.entry_length (view.view_entry c.in_ok-first.first) (ahead c.entry.new.cursor)))
     (turns.far (ahead c.entry.new.cursor) (ahead c.entries.new.cursor) (ahead c.skip.new.self) (ahead c.block.new.cursor) (subst (λ (r : List Terminal). length (ahead c.entries.new.cursor) ≤ length r) (sym c.in_ok-others.ensures.spelled) (lengths.entries_length (map view.view_entry c.in_ok-others.others.items) (ahead c.entries.new.cursor))) c.skip.ensures
-    (subst (λ (r : List Terminal). length (t.close_ ∷ ahead c.block.new.cursor) ≤ length r) (sym c.in_ok-rows-in-Open.ensures.0) (lengths.rows_length (view.view_rows c.in_ok-rows-in-Open.rows.items) (t.close_ ∷ ahead c.block.new.cursor))))
+    (subst (λ (r : List Terminal). length (t.close_ ∷ ahead c.block.new.cursor) ≤ length r) (sym c.in_ok-rows-in-Open.ensures.0) (lengths.rows_length (view_parts.view_rows c.in_ok-rows-in-Open.rows.items) (t.close_ ∷ ahead c.block.new.cursor))))
 
 pub groups-returns-in_default-role : goal.groups-returns-in_default-role
 groups-returns-in_default-role t_ c =
     let now : List Terminal = ahead c.loop-cursor.cursor in
     let first : ahead c.loop-cursor.cursor ≡ t.literal (first_literal c.loop-cursor.cursor.tokens.now) ∷ drop 1 (ahead c.loop-cursor.cursor) = of_role.as_literal c.loop-cursor.cursor.tokens.now (sym c.role.ensures ∙ c.in-Literal.is) in
     let same : map view.view_entry c.insert.new.self.items ≡ view.view_entry c.in_ok-first.first ∷ map view.view_entry c.in_ok-others.others.items = ap (λ (xs : List Entry). map view.view_entry xs) c.in_ok-insert-in_default-role.ensures.items in (
-      c.loop-cursor.invariant.spelled ∙ ap (λ (r : List Terminal). written.spelled_groups (view.groups_of (map view.view_group c.loop-cursor.groups.items) []) r) (c.in_ok-first.ensures.spelled ∙ ap (λ (r : List Terminal). written.spelled_entry (view.view_entry c.in_ok-first.first) r) c.in_ok-others.ensures.spelled) ∙ sym (turns.groups_bare (map view.view_group c.loop-cursor.groups.items) (view.view_entry c.in_ok-first.first ∷ map view.view_entry c.in_ok-others.others.items) (ahead c.entries.new.cursor)) ∙ ap (λ (xs : List trees.Entry). written.spelled_groups (view.groups_of (map view.view_group c.loop-cursor.groups.items) xs) (ahead c.entries.new.cursor)) (sym same),
+      c.loop-cursor.invariant.spelled ∙ ap (λ (r : List Terminal). written.spelled_groups (view_parts.groups_of (map view_parts.view_group c.loop-cursor.groups.items) []) r) (c.in_ok-first.ensures.spelled ∙ ap (λ (r : List Terminal). written.spelled_entry (view.view_entry c.in_ok-first.first) r) c.in_ok-others.ensures.spelled) ∙ sym (turns.groups_bare (map view_parts.view_group c.loop-cursor.groups.items) (view.view_entry c.in_ok-first.first ∷ map view.view_entry c.in_ok-others.others.items) (ahead c.entries.new.cursor)) ∙ ap (λ (xs : List trees.Entry). written.spelled_groups (view_parts.groups_of (map view_parts.view_group c.loop-cursor.groups.items) xs) (ahead c.entries.new.cursor)) (sym same),
       λ k. c.loop-cursor.invariant.faults k ∙ d.goes_on now (t.literal (first_literal c.loop-cursor.cursor.tokens.now)) (drop 1 now) (s.groups c.args.depth ∷ k) (s.condition c.args.depth ∷ s.entries c.args.depth ∷ k) c.args.depth first refl (omega arith) ∙ c.in_ok-first.ensures.faults (s.entries c.args.depth ∷ k) ∙ c.in_ok-others.ensures.faults k ∙ d.skips_entries (ahead c.entries.new.cursor) c.args.depth k c.in_ok-others.ensures.ended (λ e. c.in_default-role.not-Open (c.role-in-Literal.ensures ∙ e)),
     )

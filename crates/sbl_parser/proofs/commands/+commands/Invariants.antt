@@ -2,6 +2,7 @@ use Rattle.std.proofs.Common.{◌≡◌, ◌≤◌, ◌∷◌, ◌*◌, ◌-◌,
 use Rattle.sbl_ast.specs.Places.{max_depth}
 use Rattle.sbl_ast.specs.Spelled as written
 use Rattle.sbl_ast.specs.View as view
+use Rattle.sbl_ast.specs.inside.ViewParts as view_parts
 use Rattle.sbl_parser.specs.Gives.{ahead}
 use Rattle.sbl_parser.specs.Steps as wanted
 use Rattle.sbl_parser.proofs.commands.+commands.Given as goal
@@ -44,7 +45,7 @@ decreases-starter l = 10 * (70 - l.depth) + 0
 
 abbrev pub invariant-rows-loop-cursor : goal.invariant-rows-loop-cursor
 invariant-rows-loop-cursor l = record {
-  spelled : ahead l.fn.cursor ≡ written.spelled_rows (view.view_rows l.rows.items) (ahead l.cursor);
+  spelled : ahead l.fn.cursor ≡ written.spelled_rows (view_parts.view_rows l.rows.items) (ahead l.cursor);
   faults : (k : wanted.Stack) → wanted.fault (ahead l.fn.cursor) (wanted.rows l.depth ∷ k) ≡ wanted.fault (ahead l.cursor) (wanted.rows l.depth ∷ k);
 }
 
@@ -54,7 +55,7 @@ decreases-rows-loop-cursor l = length (ahead l.cursor)
 abbrev pub invariant-row-loop-joiner : goal.invariant-row-loop-joiner
 invariant-row-loop-joiner l = record {
   shallow : l.depth ≤ max_depth;
-  spelled : ahead l.fn.cursor ≡ written.spelled_command (view.view_command l.first) (written.spelled_others (view.view_others l.others.items) (ahead l.cursor));
+  spelled : ahead l.fn.cursor ≡ written.spelled_command (view.view_command l.first) (written.spelled_others (view_parts.view_others l.others.items) (ahead l.cursor));
   faults : (k : wanted.Stack) → wanted.fault (ahead l.fn.cursor) (wanted.command l.depth ∷ wanted.others l.depth ∷ k) ≡ wanted.fault (ahead l.cursor) (wanted.others l.depth ∷ k);
 }
 
@@ -63,7 +64,7 @@ decreases-row-loop-joiner l = length (ahead l.cursor)
 
 abbrev pub invariant-groups-loop-cursor : goal.invariant-groups-loop-cursor
 invariant-groups-loop-cursor l = record {
-  spelled : ahead l.fn.cursor ≡ written.spelled_groups (view.view_groups l.groups.items []) (ahead l.cursor);
+  spelled : ahead l.fn.cursor ≡ written.spelled_groups (view_parts.view_groups l.groups.items []) (ahead l.cursor);
   faults : (k : wanted.Stack) → wanted.fault (ahead l.fn.cursor) (wanted.groups l.depth ∷ k) ≡ wanted.fault (ahead l.cursor) (wanted.groups l.depth ∷ k);
 }
 

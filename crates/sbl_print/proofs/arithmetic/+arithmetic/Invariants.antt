@@ -1,7 +1,7 @@
 use Rattle.std.proofs.Common.{◌≡◌, ◌++◌, List, drop, string_bytes}
 use Rattle.sbl_ast.specs.Terminal.{Terminal}
 use Rattle.sbl_ast.specs.Spelled.{spelled_sums, spelled_scales}
-use Rattle.sbl_ast.specs.View.{view_sums, view_scales}
+use Rattle.sbl_ast.specs.inside.ViewParts.{view_sums, view_scales}
 use Rattle.sbl_print.specs.Adding.{more}
 use Rattle.sbl_print.proofs.arithmetic.+arithmetic.Given as goal
 

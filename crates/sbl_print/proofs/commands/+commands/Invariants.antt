@@ -2,7 +2,7 @@ use Rattle.std.proofs.Common.{◌≡◌, ◌++◌, List, drop, string_bytes}
 use Rattle.sbl_ast.specs.Terminal.{Terminal}
 use Rattle.sbl_ast.specs.Tree.{Entry}
 use Rattle.sbl_ast.specs.Spelled.{spelled_groups, spelled_others, spelled_rows}
-use Rattle.sbl_ast.specs.View.{view_groups, view_others, view_rows}
+use Rattle.sbl_ast.specs.inside.ViewParts.{view_groups, view_others, view_rows}
 use Rattle.sbl_print.specs.Adding.{more}
 use Rattle.sbl_print.proofs.commands.+commands.Given as goal
 

@@ -6,7 +6,8 @@ use Rattle.sbl_bench.specs.KeptRuns.{contents_of}
 use Rattle.sbl_rows.specs.Rows.{Row, view_row}
 use Rattle.sbl_sessions.specs.Answers.{Enough, IsReport, Memory}
 use Rattle.sbl_sessions.specs.CommandViews.{IsReply}
-use Rattle.sbl_reports.specs.Listings.{class_or_row_text, class_text}
+use Rattle.sbl_reports.specs.Listings.{class_text}
+use Rattle.sbl_reports.specs.inside.ListingParts.{class_or_row_text}
 use Rattle.sbl_sessions.proofs.FirstFacts.{looks, row_first, whole_of}
 use Rattle.sbl_sessions.proofs.ReportFacts.{class_text_is, report_answer}
 use Rattle.sbl_sessions.proofs.reports.class_reply.Goals as goal

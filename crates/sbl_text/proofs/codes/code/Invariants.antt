@@ -1,5 +1,6 @@
 use Rattle.std.proofs.Common.{◌≡◌, ◌≤◌, length}
-use Rattle.sbl_text.specs.Codes.{value_in, write_scalar}
+use Rattle.sbl_text.specs.Codes.{value_in}
+use Rattle.sbl_text.specs.inside.CodeParts.{write_scalar}
 use Rattle.sbl_text.proofs.codes.code.Given as goal
 
 abbrev pub invariant-loop-digits : goal.invariant-loop-digits

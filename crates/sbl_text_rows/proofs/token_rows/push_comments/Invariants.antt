@@ -5,7 +5,8 @@ use denote.Text.{Utf8}
 use Rattle.sbl_text.specs.declared.escapes.Inserts.{Inserts}
 use Rattle.sbl_text.specs.declared.pieces.Expectation.TheVariants as wanted
 use Rattle.sbl_text.specs.Literals.{byte_length}
-use Rattle.sbl_text.specs.Pieces.{AreGaps, Gap, setting}
+use Rattle.sbl_text.specs.Pieces.{AreGaps, Gap}
+use Rattle.sbl_text.specs.inside.PieceParts.{setting}
 use Rattle.sbl_text_rows.specs.Gaps.{cut_gap, gap_lines}
 use Rattle.sbl_text_rows.proofs.GapFacts.{Left}
 use Rattle.sbl_text_rows.proofs.token_rows.push_comments.Given as goal

@@ -1,7 +1,7 @@
 use Rattle.std.proofs.Common.{◌≡◌, ◌-◌, List, drop}
 use Rattle.sbl_ast.specs.Counts.{count_in_rows, count_in_others, count_in_groups}
 use Rattle.sbl_ast.specs.Tree as trees
-use Rattle.sbl_ast.specs.View.{view_rows, view_others, view_groups}
+use Rattle.sbl_ast.specs.inside.ViewParts.{view_rows, view_others, view_groups}
 use Rattle.sbl_tree_amongs.proofs.counting.+less.Given as goal
 
 abbrev pub invariant-less_groups-loop-group : goal.invariant-less_groups-loop-group

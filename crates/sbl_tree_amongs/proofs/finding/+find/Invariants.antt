@@ -2,7 +2,7 @@ use Rattle.std.proofs.Common.{◌≡◌, List, [], drop}
 use Rattle.sbl_tree_amongs.specs.Amongs.{AmongContents, nth_held, amongs_of_rows, amongs_of_others, amongs_of_groups}
 use Rattle.sbl_ast.specs.Places.{placed_rows, placed_others, placed_groups, AreShallow}
 use Rattle.sbl_ast.specs.Tree as trees
-use Rattle.sbl_ast.specs.View.{view_rows, view_others, view_groups}
+use Rattle.sbl_ast.specs.inside.ViewParts.{view_rows, view_others, view_groups}
 use Rattle.sbl_tree_amongs.proofs.finding.+find.Given as goal
 
 abbrev pub invariant-in_groups-loop-group : goal.invariant-in_groups-loop-group

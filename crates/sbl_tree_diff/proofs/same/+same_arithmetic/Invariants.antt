@@ -1,5 +1,5 @@
 use Rattle.std.proofs.Common.{◌≡◌, drop}
-use Rattle.sbl_ast.specs.View.{view_scales, view_sums}
+use Rattle.sbl_ast.specs.inside.ViewParts.{view_scales, view_sums}
 use Rattle.sbl_semantics.specs.Same.{same_sums, same_scales}
 use Rattle.sbl_tree_diff.proofs.same.+same_arithmetic.Given as goal
 

@@ -3,8 +3,10 @@ use Rattle.sbl_script.specs.ParsedScript.{source_of}
 use Rattle.sbl_rows.specs.Setting.{under}
 use Rattle.sbl_semantics.specs.declared.outcome.Outcome.{Outcome}
 use Rattle.sbl_semantics.specs.Outcome.{outcome_of}
-use Rattle.sbl_rows.specs.Classes.{class_of, class_with, in_order, stem_of, words_with}
-use Rattle.sbl_bench.specs.KeptRuns.{setting_of, KeptRuns, words_in}
+use Rattle.sbl_rows.specs.Classes.{class_of, class_with, in_order, stem_of}
+use Rattle.sbl_rows.specs.inside.ClassParts.{words_with}
+use Rattle.sbl_bench.specs.KeptRuns.{setting_of, KeptRuns}
+use Rattle.sbl_bench.specs.inside.KeptEntries.{words_in}
 use Rattle.sbl_rows.specs.Rows.{rows_of}
 use Rattle.sbl_bench.proofs.ClassFacts.{class_found}
 use Rattle.sbl_bench.proofs.bench.Bench.class_of.Goals as goal

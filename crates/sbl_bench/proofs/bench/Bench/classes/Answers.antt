@@ -3,7 +3,8 @@ use Rattle.sbl_script.specs.ParsedScript.{source_of}
 use Rattle.sbl_rows.specs.Setting.{under}
 use Rattle.sbl_rows.specs.Classes.{classes_of, stem_pairs}
 use Rattle.sbl_rows.specs.Grouping.{put_pairs}
-use Rattle.sbl_bench.specs.KeptRuns.{setting_of, KeptRuns, words_in}
+use Rattle.sbl_bench.specs.KeptRuns.{setting_of, KeptRuns}
+use Rattle.sbl_bench.specs.inside.KeptEntries.{words_in}
 use Rattle.sbl_bench.specs.inside.Pairs.{IsIndexed}
 use Rattle.sbl_rows.specs.Rows.{rows_of}
 use Rattle.sbl_bench.proofs.ClassFacts.{kept_sorted}

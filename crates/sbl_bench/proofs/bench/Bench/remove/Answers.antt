@@ -2,7 +2,8 @@ use Rattle.std.proofs.Common.{◌≡◌, ◌∙◌, ap, sym, subst, is_some, Lis
 use Rattle.sbl_script.specs.ParsedScript.{source_of}
 use Rattle.sbl_bench.specs.declared.fault.EditFault.TheVariants.{Absent}
 use Rattle.sbl_bench.specs.Edits.{Edits, Remove}
-use Rattle.sbl_bench.specs.KeptRuns.{IsKept, KeptRuns, KeptWord, contents_of, words_in}
+use Rattle.sbl_bench.specs.KeptRuns.{KeptRuns, contents_of}
+use Rattle.sbl_bench.specs.inside.KeptEntries.{IsKept, KeptWord, words_in}
 use Rattle.sbl_rows.specs.ChangedRows.{changed_rows}
 use Rattle.sbl_bench.specs.LeavesChanges.{rows_now}
 use Rattle.sbl_rows.specs.Rows.{rows_of}

@@ -1,7 +1,8 @@
 use Rattle.std.proofs.Common.{◌∙◌, List, ap, map}
 use Rattle.sbl_script.specs.ParsedScript.{source_of}
 use Rattle.sbl_rows.specs.Setting.{under}
-use Rattle.sbl_bench.specs.KeptRuns.{setting_of, KeptWord, KeptRuns}
+use Rattle.sbl_bench.specs.KeptRuns.{setting_of, KeptRuns}
+use Rattle.sbl_bench.specs.inside.KeptEntries.{KeptWord}
 use Rattle.sbl_rows.specs.Rows.{rows_of}
 use Rattle.sbl_bench.proofs.MapEntries.{row_shown, rows_shown}
 use Rattle.sbl_bench.proofs.bench.Bench.rows.Goals as goal

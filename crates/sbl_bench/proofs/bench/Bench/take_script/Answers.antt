@@ -5,7 +5,8 @@ use Rattle.sbl_script.specs.ParsedScript.{ParsedScript, source_of}
 use Rattle.sbl_machine.specs.MachineOf.{IsLinkedMachineOf}
 use Rattle.sbl_bench.specs.inside.Changes.{Brings, affected_of}
 use Rattle.sbl_bench.specs.Edits.{BeforeEdit, Edits}
-use Rattle.sbl_bench.specs.KeptRuns.{KeptWord, IsKept, IsWord, KeptRuns, contents_of, words_in}
+use Rattle.sbl_bench.specs.KeptRuns.{IsWord, KeptRuns, contents_of}
+use Rattle.sbl_bench.specs.inside.KeptEntries.{KeptWord, IsKept, words_in}
 use Rattle.sbl_rows.specs.ChangedRows.{changed_rows}
 use Rattle.sbl_bench.specs.Contents.{Contents}
 use Rattle.sbl_bench.specs.inside.Last.{Follows, last_changes}

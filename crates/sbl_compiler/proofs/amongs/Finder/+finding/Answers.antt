@@ -1,6 +1,6 @@
 use Rattle.std.proofs.Common.{◌∙◌, ◌+◌, ap, drop, map, sym}
 use Rattle.sbl_ast.specs.Tree as trees
-use Rattle.sbl_ast.specs.View.{view_groups, view_others, view_rows}
+use Rattle.sbl_ast.specs.inside.ViewParts.{view_groups, view_others, view_rows}
 use Rattle.sbl_compiler.specs.NumberedAmongs.{found_groups, found_others, found_rows}
 use Rattle.sbl_compiler.specs.NumberedView.{view_found, view_names}
 use Rattle.sbl_compiler.proofs.Loops.{groups_at, others_at, rows_at}

@@ -1,6 +1,6 @@
 use Rattle.std.proofs.Common.{◌∙◌, ◌+◌, ◌++◌, ap, drop, map, sym}
 use Rattle.sbl_ast.specs.Tree as trees
-use Rattle.sbl_ast.specs.View.{view_factor, view_product, view_scales, view_sums}
+use Rattle.sbl_ast.specs.inside.ViewParts.{view_factor, view_product, view_scales, view_sums}
 use Rattle.sbl_ast.specs.declared.tree.NextProduct.{out-NextProduct}
 use Rattle.sbl_program.specs.Chains.{AddedView, ScaledView}
 use Rattle.sbl_program.specs.Program as programs

@@ -1,5 +1,5 @@
 use Rattle.std.proofs.Common.{◌≡◌, ◌++◌, drop, map}
-use Rattle.sbl_ast.specs.View.{view_scales, view_sums}
+use Rattle.sbl_ast.specs.inside.ViewParts.{view_scales, view_sums}
 use Rattle.sbl_compiler.specs.NumberedNumbers.{scales_in, sums_in}
 use Rattle.sbl_compiler.specs.NumberedView.{names_in}
 use Rattle.sbl_program.specs.ProgramOf.{view_next_product, view_next_factor}

@@ -1,6 +1,7 @@
 use Rattle.std.proofs.Common.{◌∙◌, ◌+◌, ◌++◌, ◌∷◌, List, ap, drop, map, sym}
 use Rattle.sbl_ast.specs.Tree as trees
-use Rattle.sbl_ast.specs.View.{view_command, view_groups, view_others, view_row, view_rows}
+use Rattle.sbl_ast.specs.View.{view_command, view_row}
+use Rattle.sbl_ast.specs.inside.ViewParts.{view_groups, view_others, view_rows}
 use Rattle.sbl_ast.specs.declared.tree.Group.{out-Group}
 use Rattle.sbl_program.specs.Program as programs
 use Rattle.sbl_program.specs.ProgramOf.{commands_of}

@@ -1,6 +1,6 @@
 use Rattle.std.proofs.Common.{◌≡◌, ◌++◌, drop, map, List}
 use Rattle.sbl_ast.specs.Tree as trees
-use Rattle.sbl_ast.specs.View.{view_groups, view_others, view_rows}
+use Rattle.sbl_ast.specs.inside.ViewParts.{view_groups, view_others, view_rows}
 use Rattle.sbl_compiler.specs.NumberedItems.{joins_in, numbered_groups, numbered_rows, past_groups, past_others, past_rows}
 use Rattle.sbl_compiler.specs.NumberedView.{joined_in, names_in, node_in, place_in}
 use Rattle.sbl_compiler.proofs.compiler.Compiler.+commands.Given as goal

@@ -1,7 +1,8 @@
 use Rattle.std.proofs.Common.{◌≡◌, ◌<◌, ◌+◌, ◌-◌, ◌∙◌, ◌++◌, rules, arith, take, length, length-take-le, get_or, refl, sym, ◌≤◌}
 use Rattle.std.specs.Prelude.{slice_range}
 use Rattle.std.proofs.KnownBytes.{Consumes-trans}
-use Rattle.sbl_io.specs.HeldInput.{NoFeed, line_of}
+use Rattle.sbl_io.specs.HeldInput.{line_of}
+use Rattle.sbl_io.specs.inside.LineSteps.{NoFeed}
 use Rattle.sbl_io.proofs.Bytes.{no_feed_append, no_feed_prefix, take_many}
 use Rattle.sbl_io.proofs.HeldFacts.{byte-held, feed-inside}
 use Rattle.sbl_io.proofs.lines.Lines.take_held.Goals as goal

@@ -1,6 +1,8 @@
 use Rattle.std.proofs.Common.{◌≡◌, ◌≤◌, ◌+◌, [], vec_len}
 use Rattle.std.specs.Io.KnownBytes.{Consumes}
-use Rattle.sbl_io.specs.HeldInput.{AsksInTime, HoldsLine, fuel_of, line_of, input_of, reads_bound, NoFeed, StaysEnded}
+use Rattle.sbl_io.specs.inside.LineSteps.{AsksInTime}
+use Rattle.sbl_io.specs.HeldInput.{HoldsLine, fuel_of, line_of, input_of, reads_bound, StaysEnded}
+use Rattle.sbl_io.specs.inside.LineSteps.{NoFeed}
 use Rattle.sbl_io.proofs.lines.Lines.take_line.Given as goal
 
 abbrev pub invariant-loop-byte : goal.invariant-loop-byte

@@ -1,5 +1,5 @@
 use Rattle.std.proofs.Common.{◌≡◌, drop}
-use Rattle.sbl_ast.specs.View.{view_sums, view_scales}
+use Rattle.sbl_ast.specs.inside.ViewParts.{view_sums, view_scales}
 use Rattle.sbl_resolver.specs.OccurrenceView.{noted_sums, noted_scales, view_occurrences}
 use Rattle.sbl_resolver.proofs.sofar.SoFar.+arithmetic.Given as goal
 

@@ -1,6 +1,6 @@
 use Rattle.std.proofs.Common.{◌≡◌, drop, List}
 use Rattle.sbl_ast.specs.Tree as trees
-use Rattle.sbl_ast.specs.View.{view_rows, view_others, view_groups}
+use Rattle.sbl_ast.specs.inside.ViewParts.{view_rows, view_others, view_groups}
 use Rattle.sbl_resolver.specs.Occurrences.{noted_rows, noted_others, noted_groups}
 use Rattle.sbl_resolver.specs.OccurrenceView.{view_occurrences}
 use Rattle.sbl_resolver.proofs.sofar.SoFar.+commands.Given as goal

@@ -2,7 +2,7 @@ use Rattle.std.proofs.Common.{◌≡◌, Some, rules, ap, ◌∙◌}
 use Rattle.std.proofs.lemmas.Iterator.Adapters.{YieldsList-from_rev_slice}
 use Rattle.std.proofs.lemmas.Iterator.Search.{position_from_yields_List}
 use Rattle.sbl_program.specs.CharacterClasses.{members}
-use Rattle.sbl_semantics.specs.Moves.{next_is}
+use Rattle.sbl_semantics.specs.inside.MoveParts.{next_is}
 use Rattle.sbl_run_state.proofs.state.seeking.first_met.Goals as goal
 
 pub returns-in-Backward : goal.returns-in-Backward

@@ -2,7 +2,8 @@ use Rattle.std.proofs.Common.{◌≡◌, ◌-◌, List, drop, map}
 use Rattle.sbl_ast.specs.Counts.{count_in_rows, count_in_others, count_in_groups}
 use Rattle.sbl_tree_amongs.specs.Amongs.{put_in_rows, put_in_others, put_in_groups}
 use Rattle.sbl_ast.specs.Tree as trees
-use Rattle.sbl_ast.specs.View.{view_among, view_row, view_next_command, view_group, view_rows, view_others, view_groups}
+use Rattle.sbl_ast.specs.View.{view_among, view_row}
+use Rattle.sbl_ast.specs.inside.ViewParts.{view_next_command, view_group, view_rows, view_others, view_groups}
 use Rattle.sbl_tree_amongs.proofs.Putting.{then_rows, then_others, then_groups}
 use Rattle.sbl_tree_amongs.proofs.replacing.Replacement.+put_among.Given as goal
 

@@ -1,0 +1,14 @@
+-- Names for parts of BuiltFrom.antt.
+use Rattle.std.specs.Prelude.{ℕ, Bool, List, ◌∷◌}
+use Rattle.std.specs.List.{fold}
+use Rattle.sbl_ast.specs.declared.tree.Additive.TheVariants.{Plus}
+use Rattle.sbl_ast.specs.Order.{ItemInMode}
+use Rattle.sbl_ast.specs.Tree.{Argument, Term, term}
+use Rattle.sbl_machine.specs.BuiltFrom.{and_built}
+
+-- whether the first term or one of the others names a chosen grouping
+abbrev pub built_on : (List ℕ → Bool) → Argument → List Term → Bool
+built_on chosen a ts = any_names chosen (term Plus a ∷ ts)
+
+abbrev pub built_after : List ItemInMode → List (List ℕ) → List (List ℕ)
+built_after xs ns = fold (λ ns x. and_built x.plain ns) ns xs
