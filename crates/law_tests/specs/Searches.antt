@@ -10,7 +10,7 @@ use Rattle.sbl_semantics.specs.Fitting.{ahead_at}
 use Rattle.sbl_semantics.specs.Items.{body_named, char_class_of, classes_after, known_in}
 use Rattle.sbl_semantics.specs.Meaning.{Offer, calls, search}
 use Rattle.sbl_semantics.specs.Outcome.{events_at}
-use Rattle.sbl_semantics.specs.Regions.{Among}
+use Rattle.sbl_semantics.specs.Landmarks.{Among}
 use Rattle.sbl_semantics.specs.State.{Ending, State, bound_of}
 
 -- the end of a search of an among in a run of the script, if this many levels are left

@@ -4,7 +4,7 @@ ghost use Rattle.std.specs.Prelude.{◌≡◌, ℕ, List, Option, Some, None};
 ghost use Rattle.sbl_semantics.specs.Meaning.{Offer};
 ghost use Rattle.sbl_semantics.specs.Outcome.{events_of};
 ghost use Rattle.sbl_semantics.specs.Items.{Body, DeclaredNames};
-ghost use Rattle.sbl_semantics.specs.Regions.{Among};
+ghost use Rattle.sbl_semantics.specs.Landmarks.{Among};
 ghost use Rattle.sbl_semantics.specs.Events.{Event'};
 ghost use Rattle.sbl_semantics.specs.State.{State};
 ghost use Rattle.sbl_ast.specs.Source.{Source};

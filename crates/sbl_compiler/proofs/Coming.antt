@@ -10,7 +10,8 @@ use Rattle.sbl_ast.specs.declared.tree.Simple.TheVariants as simples
 use Rattle.sbl_compiler.specs.Ahead.{found_as, search_of, search_then, search_next as search_by, simple_by, made_command, made_rows, made_others, made_starter, made_groups}
 use Rattle.sbl_compiler.specs.NumberedAmongs.{AmongStrings}
 use Rattle.sbl_compiler.specs.NumberedNames.{Names}
-use Rattle.sbl_semantics.specs.Regions.{Among, among_at, mode_under, number_after, number_after_rows, number_after_others, number_after_starter, first, first_rows, first_others, waits, waits_rows, waits_others}
+use Rattle.sbl_semantics.specs.Regions.{among_at, number_after, number_after_rows, number_after_others, number_after_starter, first, first_rows, first_others, waits, waits_rows, waits_others}
+use Rattle.sbl_semantics.specs.Landmarks.{Among, mode_under}
 use Rattle.sbl_compiler.specs.NumberedNumbers.{expression}
 use Rattle.sbl_program.specs.Chains.{join}
 use Rattle.sbl_compiler.specs.NumberedItems.{Position, next_of, inside, end_waiting, past, past_simple, past_rows, past_others, past_starter, past_groups, begin_region, region, search_next, simple, after_prefix, after_count, numbered_command, numbered_rows, numbered_others, numbered_starter, numbered_groups}

@@ -7,7 +7,8 @@ use Rattle.std.specs.Prelude.{◌-◌, None}
 use Rattle.sbl_compiler.specs.Ahead.{found_as, routine_made, routine_in, routines_in}
 use Rattle.sbl_compiler.specs.NumberedAmongs.{AmongStrings, found_of, found_command, found_rows, found_others, found_starter, found_groups, found_plain, found_after}
 use Rattle.sbl_compiler.specs.NumberedNames.{Names}
-use Rattle.sbl_semantics.specs.Regions.{among_at, mode_under, number_after, number_after_rows, number_after_others, number_after_starter, number_after_groups, waits}
+use Rattle.sbl_semantics.specs.Regions.{among_at, number_after, number_after_rows, number_after_others, number_after_starter, number_after_groups, waits}
+use Rattle.sbl_semantics.specs.Landmarks.{mode_under}
 use Rattle.sbl_compiler.specs.NumberedItems.{Position, end_waiting, past, past_body, past_plain, begin_body, routine_of, with_routine, routines_after}
 use Rattle.sbl_program.specs.Program as programs
 use Rattle.sbl_ast.specs.Tree.{Command, Rows, Others, Starter, Groups, Plain, declaration, escapes, macro, routine, grouping, bracket, simple_, literal_, name_, non_, prefixed, counted, move_, named, splice_, setlimit_, assign_, compare_, compare_values_, among_, no_rows, row, no_others, joined, no_starter, starter, bare, group}

@@ -15,8 +15,10 @@ use Rattle.sbl_compiler.specs.NumberedAmongs.{AmongStrings, strings_after, entri
 use Rattle.sbl_compiler.specs.NumberedNames.{Names, number_of}
 use Rattle.sbl_compiler.specs.NumberedNumbers.{expression, text}
 use Rattle.sbl_program.specs.Program as programs
-use Rattle.sbl_semantics.specs.Regions.{Among, among_at, number_after, number_after_rows, number_after_others}
-use Rattle.sbl_semantics.specs.Regions.{number_after_starter, first, first_rows, first_others, mode_under, waits, waits_others}
+use Rattle.sbl_semantics.specs.Regions.{among_at, number_after, number_after_rows, number_after_others}
+use Rattle.sbl_semantics.specs.Landmarks.{Among}
+use Rattle.sbl_semantics.specs.Regions.{number_after_starter, first, first_rows, first_others, waits, waits_others}
+use Rattle.sbl_semantics.specs.Landmarks.{mode_under}
 use Rattle.sbl_ast.specs.declared.mode.Mode.{Mode}
 
 abbrev pub found_as : Names → Among → AmongStrings

@@ -10,7 +10,7 @@ use Rattle.sbl_ast.specs.declared.mode.Mode.{Mode}
 use Rattle.sbl_program.specs.declared.node.Candidate.{Candidate}
 use Rattle.sbl_program.specs.AmongStrings.{Listing, listing}
 use Rattle.sbl_compiler.specs.NumberedNames.{Names, number_of}
-use Rattle.sbl_semantics.specs.Regions.{mode_under}
+use Rattle.sbl_semantics.specs.Landmarks.{mode_under}
 
 pub record AmongStrings : Type 0 where
   pub number : ℕ

@@ -8,7 +8,7 @@ ghost use Rattle.sbl_ast.specs.Tree as trees;
 ghost use Rattle.sbl_compiler.specs.NumberedAmongs as spec;
 ghost use Rattle.sbl_program.specs.FoundView.{texts};
 ghost use Rattle.sbl_compiler.specs.NumberedView.{AddsGroups, Finds, found_row, view_found, view_names};
-ghost use Rattle.sbl_semantics.specs.Regions.{mode_under as spec_mode_after};
+ghost use Rattle.sbl_semantics.specs.Landmarks.{mode_under as spec_mode_after};
 
 use crate::names::SymbolTable;
 use sbl_ast::{

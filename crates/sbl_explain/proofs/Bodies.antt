@@ -10,13 +10,15 @@ use Rattle.sbl_ast.specs.Tree.{bracket, simple_, literal_, name_, non_, prefixed
 use Rattle.sbl_ast.specs.declared.mode.Mode.{Mode}
 use Rattle.sbl_ast.specs.declared.mode.Mode.TheVariants.{Forward, Backward}
 use Rattle.sbl_semantics.specs.Items.{DeclaredNames, Body, place_of, is_member}
-use Rattle.sbl_semantics.specs.Regions.{Among, among_at, number_after, number_after_rows, number_after_others, number_after_starter, first, first_rows, first_others, mode_under, waits, waits_others}
+use Rattle.sbl_semantics.specs.Regions.{among_at, number_after, number_after_rows, number_after_others, number_after_starter, first, first_rows, first_others, waits, waits_others}
+use Rattle.sbl_semantics.specs.Landmarks.{Among, mode_under}
 use Rattle.sbl_semantics.specs.Moves.{touch_grouping}
 use Rattle.sbl_semantics.specs.Numbers.{Value, with_value, integer_at, value_in_range}
 use Rattle.sbl_semantics.specs.Control.{with_group, pay_first}
 use Rattle.sbl_semantics.specs.Choices.{choice}
 use Rattle.sbl_semantics.specs.State.{State, Ending, Signals, Doing}
 use Rattle.sbl_semantics.specs.Meaning as meaning
+use Rattle.sbl_semantics.specs.inside.RegionRuns as regions
 use Rattle.sbl_semantics.specs.inside.MeaningParts as parts
 use Rattle.sbl_semantics.specs.Meaning.{Offer, prefixed_does, counted_does, joined_does, limited_does, simple_does, moved_does, assigned_does, compared_does, named_does, edited_does, takes, try_each, search}
 use Rattle.sbl_semantics.specs.inside.MeaningParts.{begins}
@@ -122,7 +124,7 @@ module _ (ns : DeclaredNames) (class : List ℕ → ℕ → Bool) (bodies : List
         (λ n l. ap (λ cs. edited_does y cs m (at n s)) (sym (text_at ns z n s))) (edited_good ns bodies r y (meaning.text ns z s) m s)
 
     abbrev does : Mode → ℕ → Bool → Option Among → trees.Command → Doing
-    does = meaning.act ns class call
+    does = regions.act ns class call
 
     mutual
       pub act_paid : (t : trees.Command) (w : Mode) (i : ℕ) (v : Bool) (x : Option Among) → ((a : Among) → IsIn a w i t → Has a) → ((a : Among) → x ≡ Some a → Has a) → GoodDoing (pay_first (does w i v x t))
@@ -166,27 +168,27 @@ module _ (ns : DeclaredNames) (class : List ℕ → ℕ → Bool) (bodies : List
           (compared_good ns bodies r o (meaning.worth ns e m s) z s))
       act_paid (among_ st gs) w i v x p q =
           let a = among_at w i gs in
-          let starts = meaning.starter_does ns class call w (suc i) st in
+          let starts = regions.starter_does ns class call w (suc i) st in
           pays (does w i v x (among_ st gs))
           (λ m s.
-          after_part ns bodies r s (λ n. begins v (search call a) starts m (at n s)) s.steps (λ t. with_group (choice i t) t (λ g. meaning.group_does ns class call w (number_after_starter st (suc i)) gs g m t)) (Signals false)
+          after_part ns bodies r s (λ n. begins v (search call a) starts m (at n s)) s.steps (λ t. with_group (choice i t) t (λ g. regions.group_does ns class call w (number_after_starter st (suc i)) gs g m t)) (Signals false)
           (begins_good ns bodies r v (search call a) starts (search_good a (p a (inl refl))) (starter_good st w (suc i) (λ y j. p y (inr (inl j)))) m s)
-          (chosen_good ns bodies r i (λ g t. meaning.group_does ns class call w (number_after_starter st (suc i)) gs g m t) (λ g. groups_good gs w (number_after_starter st (suc i)) g (λ y j. p y (inr (inr j))) m))
+          (chosen_good ns bodies r i (λ g t. regions.group_does ns class call w (number_after_starter st (suc i)) gs g m t) (λ g. groups_good gs w (number_after_starter st (suc i)) g (λ y j. p y (inr (inr j))) m))
           (signals_good ns bodies r false))
 
-      rows_good : (rs : trees.Rows) (w : Mode) (i : ℕ) (v : Bool) (x : Option Among) → ((a : Among) → IsInRows a w i rs → Has a) → ((a : Among) → x ≡ Some a → Has a) → GoodDoing (meaning.rows_do ns class call w i v x rs)
+      rows_good : (rs : trees.Rows) (w : Mode) (i : ℕ) (v : Bool) (x : Option Among) → ((a : Among) → IsInRows a w i rs → Has a) → ((a : Among) → x ≡ Some a → Has a) → GoodDoing (regions.rows_do ns class call w i v x rs)
       rows_good no_rows w i v x p q m s = still ns bodies r s s true refl refl refl
       rows_good (row c os rs) w i v x p q m s =
           let x2 = first_rows w rs (number_after_others os (number_after c i)) x in
           let x1 = first_others w os (number_after c i) x2 in
           let q2 : (a : Among) → x2 ≡ Some a → Has a = rows_are Has rs w (number_after_others os (number_after c i)) x (λ a j. p a (inr (inr j))) q in
           let q1 : (a : Among) → x1 ≡ Some a → Has a = others_are Has os w (number_after c i) x2 (λ a j. p a (inr (inl j))) q2 in
-          let d = meaning.others_do ns class call w (number_after c i) (waits c v) x2 os (does w i v x1 c) in
-          after_part ns bodies r s (λ n. pay_first d m (at n s)) s.steps (meaning.rows_do ns class call w (number_after_others os (number_after c i)) (waits_others os (waits c v)) x rs m) (Signals false)
+          let d = regions.others_do ns class call w (number_after c i) (waits c v) x2 os (does w i v x1 c) in
+          after_part ns bodies r s (λ n. pay_first d m (at n s)) s.steps (regions.rows_do ns class call w (number_after_others os (number_after c i)) (waits_others os (waits c v)) x rs m) (Signals false)
           (others_paid os w (number_after c i) (waits c v) x2 (does w i v x1 c) (λ a j. p a (inr (inl j))) q2 (act_paid c w i v x1 (λ a j. p a (inl j)) q1) m s)
           (rows_good rs w (number_after_others os (number_after c i)) (waits_others os (waits c v)) x (λ a j. p a (inr (inr j))) q m) (signals_good ns bodies r false)
 
-      pub others_paid : (os : trees.Others) (w : Mode) (i : ℕ) (v : Bool) (x : Option Among) (d : Doing) → ((a : Among) → IsInOthers a w i os → Has a) → ((a : Among) → x ≡ Some a → Has a) → GoodDoing (pay_first d) → GoodDoing (pay_first (meaning.others_do ns class call w i v x os d))
+      pub others_paid : (os : trees.Others) (w : Mode) (i : ℕ) (v : Bool) (x : Option Among) (d : Doing) → ((a : Among) → IsInOthers a w i os → Has a) → ((a : Among) → x ≡ Some a → Has a) → GoodDoing (pay_first d) → GoodDoing (pay_first (regions.others_do ns class call w i v x os d))
       others_paid no_others w i v x d p q j = j
       others_paid (joined y c os) w i v x d p q j =
           let e = does w i v (first_others w os (number_after c i) x) c in
@@ -194,11 +196,11 @@ module _ (ns : DeclaredNames) (class : List ℕ → ℕ → Bool) (bodies : List
           others_paid os w (number_after c i) (waits c v) x (joined_does y (pay_first d) (pay_first e)) (λ a k. p a (inr k)) q
           (pays (joined_does y (pay_first d) (pay_first e)) (joined_good ns bodies r y (pay_first d) (pay_first e) j (act_paid c w i v (first_others w os (number_after c i) x) (λ a k. p a (inl k)) q1)))
 
-      starter_good : (st : trees.Starter) (w : Mode) (i : ℕ) → ((a : Among) → IsInStarter a w i st → Has a) → GoodDoing (meaning.starter_does ns class call w i st)
+      starter_good : (st : trees.Starter) (w : Mode) (i : ℕ) → ((a : Among) → IsInStarter a w i st → Has a) → GoodDoing (regions.starter_does ns class call w i st)
       starter_good no_starter w i p m s = still ns bodies r s s true refl refl refl
-      starter_good (starter rs) w i p m s = pays (meaning.rows_do ns class call w i false None rs) (rows_good rs w i false None p (none_is Has)) m s
+      starter_good (starter rs) w i p m s = pays (regions.rows_do ns class call w i false None rs) (rows_good rs w i false None p (none_is Has)) m s
 
-      groups_good : (gs : trees.Groups) (w : Mode) (i g : ℕ) → ((a : Among) → IsInGroups a w i gs → Has a) → GoodDoing (meaning.group_does ns class call w i gs g)
+      groups_good : (gs : trees.Groups) (w : Mode) (i g : ℕ) → ((a : Among) → IsInGroups a w i gs → Has a) → GoodDoing (regions.group_does ns class call w i gs g)
       groups_good (bare es) w i g p m s = still ns bodies r s s true refl refl refl
-      groups_good (group e es rs gs) w i zero p m s = pays (meaning.rows_do ns class call w i false None rs) (rows_good rs w i false None (λ a j. p a (inl j)) (none_is Has)) m s
+      groups_good (group e es rs gs) w i zero p m s = pays (regions.rows_do ns class call w i false None rs) (rows_good rs w i false None (λ a j. p a (inl j)) (none_is Has)) m s
       groups_good (group e es rs gs) w i (suc g) p m s = groups_good gs w (number_after_rows rs i) g (λ a j. p a (inr j)) m s

@@ -8,13 +8,16 @@ use Rattle.sbl_ast.specs.declared.mode.Mode.{Mode}
 use Rattle.sbl_ast.specs.declared.mode.Mode.TheVariants.{Forward}
 use Rattle.sbl_semantics.specs.Fitting.{ahead_at}
 use Rattle.sbl_semantics.specs.Items.{DeclaredNames, Body, place_of, known_in, char_class_of, classes_after, body_named}
-use Rattle.sbl_semantics.specs.Regions.{Among, number_after, number_after_others, first_others, waits}
+use Rattle.sbl_semantics.specs.Regions.{number_after, number_after_others, first_others, waits}
+use Rattle.sbl_semantics.specs.Landmarks.{Among}
 use Rattle.sbl_semantics.specs.Events.{Event', Enters, Leaves, Searches, Finds, Puts}
 use Rattle.sbl_semantics.specs.inside.EventParts.{with_event}
 use Rattle.sbl_semantics.specs.Control.{back_in, enter, leave, pay_first}
 use Rattle.sbl_semantics.specs.inside.ControlParts.{end_search}
 use Rattle.sbl_semantics.specs.State.{State, Ending, Signals, Stops, Doing, bound_of}
 use Rattle.sbl_semantics.specs.Meaning as meaning
+use Rattle.sbl_semantics.specs.inside.RegionRuns as regions
+use Rattle.sbl_semantics.proofs.ByLandmarks.{calls_same}
 use Rattle.sbl_semantics.specs.inside.MeaningParts as parts
 use Rattle.sbl_semantics.specs.Meaning.{Offer, prefixed_does, counted_does, joined_does, limited_does, simple_does, moved_does, assigned_does, compared_does, named_does, edited_does, takes, try_each, search}
 use Rattle.sbl_semantics.specs.inside.MeaningParts.{begins}
@@ -48,7 +51,7 @@ module _ (ns : DeclaredNames) (class : List ℕ → ℕ → Bool) (bodies : List
       row_paid =
           let others : (a : Among) → IsInOthers a b.mode (number_after b.first 0) b.others → HasHere a = λ a j. (x, b, refl, e, inr j) in
           let n = first_others b.mode b.others (number_after b.first 0) None in
-          others_paid ns class bodies call p (calls p) b.others b.mode (number_after b.first 0) (waits b.first false) None (meaning.act ns class call b.mode 0 false n b.first) others (none_is HasHere)
+          others_paid ns class bodies call p (calls p) b.others b.mode (number_after b.first 0) (waits b.first false) None (regions.act ns class call b.mode 0 false n b.first) others (none_is HasHere)
           (act_paid ns class bodies call p (calls p) b.first b.mode 0 false n (λ a j. (x, b, refl, e, inl j)) (others_are HasHere b.others b.mode (number_after b.first 0) None others (none_is HasHere)))
 
       abbrev run : Family
@@ -129,14 +132,14 @@ module _ (ns : DeclaredNames) (class : List ℕ → ℕ → Bool) (bodies : List
     with_none : (c : Course) → c ≡ with_calls [] c
     with_none c = refl
 
-    body_called : (o : Option Body) → bodies x ≡ o → PartX ns bodies r (Called ns bodies r x s) (Unended ns bodies r) s (λ k. meaning.body_does ns class call x o m (at k s)) s.steps
+    body_called : (o : Option Body) → bodies x ≡ o → PartX ns bodies r (Called ns bodies r x s) (Unended ns bodies r) s (λ k. regions.body_does ns class call x o m (at k s)) s.steps
     body_called None e =
         here_with ns bodies r (Called ns bodies r x s) (Unended ns bodies r) s s false s.steps refl refl refl (refl, (λ es. with_none (course es) ∙ ap (λ o. with_calls (call_of ns bodies x false o) (course es)) (sym e)))
     body_called (Some b) e = back_called b e s.steps (row_paid b e m (start_state b e))
 
-  pub calls_are : (levels r : ℕ) → CallsAre ns bodies r (meaning.calls ns class bodies levels)
+  pub calls_are : (levels r : ℕ) → CallsAre ns bodies r (regions.calls ns class bodies levels)
   calls_are zero r x m s = stop_with ns bodies r (Called ns bodies r x s) (Unended ns bodies r) s s faults.Depth s.steps refl refl
-  calls_are (suc levels) r x m s = body_called (meaning.calls ns class bodies levels) (calls_are levels) x s m r (bodies x) refl
+  calls_are (suc levels) r x m s = body_called (regions.calls ns class bodies levels) (calls_are levels) x s m r (bodies x) refl
 
 -- ---- the laws
 
@@ -149,8 +152,9 @@ searches_take_first script levels a m s before e =
     let items = in_order script.items in
     let known = known_in items in
     let bodies = body_named items in
-    let call = meaning.calls known (char_class_of (classes_after items [])) bodies levels in
-    let calls = calls_are known (char_class_of (classes_after items [])) bodies levels 0 in
+    let class = char_class_of (classes_after items []) in
+    let call = meaning.calls known class bodies levels in
+    let calls = subst (CallsAre known bodies 0) (sym (calls_same known class bodies levels)) (calls_are known class bodies levels 0) in
     let end_search = search_found known bodies 0 call calls a m s s.steps in
     let h = first_in known bodies 0 call calls a m s end_search.0 (λ n. search call a m (at n s)) s.steps end_search.2 in (
       h.0,
@@ -179,8 +183,9 @@ each_search_takes_first script word limit before rest i k m c e =
     let class = char_class_of (classes_after items []) in
     let start : State = record (meaning.start known word limit) { events = Some [] } in
     let run : Family = meaning.ending_with_events script word in
+    let calls = subst (CallsAre known bodies 0) (sym (calls_same known class bodies 32)) (calls_are known class bodies 32 0) in
     let all : Each known bodies 0 (IsWhole (run limit)) (Some []) word 0 run limit [] (events_of script word limit) [] =
-    each_in known bodies start refl run script.external limit (calls_are known class bodies 32 0 script.external Forward start) in
+    each_in known bodies start refl run script.external limit (calls script.external Forward start) in
     let h : Moment known bodies 0 (IsWhole (run limit)) (Some []) word 0 run limit before i k m c (rest ++ []) =
     each_at known bodies 0 (IsWhole (run limit)) (Some []) word 0 run limit [] before (Searches i k m c) rest [] (subst (λ es. Each known bodies 0 (IsWhole (run limit)) (Some []) word 0 run limit [] es []) e all) in
     record {

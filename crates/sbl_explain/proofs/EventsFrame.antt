@@ -17,7 +17,10 @@ use Rattle.sbl_semantics.specs.declared.touch.Touch.TheVariants.{Entered, Tested
 use Rattle.sbl_machine.specs.BuiltFrom.{IsClosed, IsClosedAt}
 use Rattle.sbl_machine.specs.Frame.{AgreeOutside}
 use Rattle.sbl_machine.specs.Holes.{with_holes, others_with_holes, holed_script}
-use Rattle.sbl_semantics.specs.Meaning.{body_does, calls, start, ending_with_events}
+use Rattle.sbl_semantics.specs.Meaning.{start, ending_with_events}
+use Rattle.sbl_semantics.specs.inside.RegionRuns.{body_does, calls}
+use Rattle.sbl_semantics.specs.inside.RegionRuns as regions
+use Rattle.sbl_semantics.proofs.ByLandmarks.{telling_is}
 use Rattle.sbl_semantics.specs.inside.MeaningParts.{row_does}
 use Rattle.sbl_semantics.specs.Control.{pay_first, enter, leave}
 use Rattle.sbl_semantics.specs.State.{State, Ending, Signals, Stops, Doing, pay}
@@ -173,9 +176,17 @@ levels_kin picked l s closed word limit =
     (sym (ap (λ xs. run_on l xs s.external word limit) (order_holed picked s.items) ∙ holed_run picked l (in_order s.items) s.external word limit))
     (((calls_alike picked (in_order s.items) closed l 0 s.external).in_mode Forward).at (start_with_events (known_in (in_order s.items)) word limit) (record { here = refl; quiet = λ k c clear. refl })).kin
 
+regions_kin : (picked : Item' → Bool) (s : Source) → IsClosed picked s → (word : List ℕ) (limit : ℕ) → Kin (marked_by picked (names_of s)) (regions.ending_with_events s word limit) (regions.ending_with_events (holed_script picked s) word limit)
+unfolding regions.ending_with_events
+regions_kin picked s closed word limit = levels_kin picked 32 s closed word limit
+
 ending_kin : (picked : Item' → Bool) (s : Source) → IsClosed picked s → (word : List ℕ) (limit : ℕ) → Kin (marked_by picked (names_of s)) (ending_with_events s word limit) (ending_with_events (holed_script picked s) word limit)
-unfolding ending_with_events
-ending_kin picked s closed word limit = levels_kin picked 32 s closed word limit
+ending_kin picked s closed word limit =
+    let is_marked = marked_by picked (names_of s) in
+    let same = telling_is s word limit in
+    let same_hole = telling_is (holed_script picked s) word limit in
+    subst (λ (e : Ending). Kin is_marked e (ending_with_events (holed_script picked s) word limit)) (sym same)
+    (subst (Kin is_marked (regions.ending_with_events s word limit)) (sym same_hole) (regions_kin picked s closed word limit))
 
 clear_kin : (is_marked : Touch → Bool) (e e' : Ending) → Kin is_marked e e' → dirty_at is_marked e ≡ false → e' ≡ e
 clear_kin is_marked e e' h clear = ⊎_elim (λ p. p) (λ d. absurd (true≢false (sym d.0 ∙ clear))) h

@@ -2,7 +2,8 @@
 use Rattle.std.proofs.Common.{◌≡◌, ℕ, inl, inr, refl, subst}
 use Rattle.std.specs.Prelude.{Option, Some, None}
 use Rattle.std.proofs.lemmas.Option.{same_Some}
-use Rattle.sbl_semantics.specs.Regions.{Among, among_at, number_after, number_after_others, first, first_others, first_rows, mode_under}
+use Rattle.sbl_semantics.specs.Regions.{among_at, number_after, number_after_others, first, first_others, first_rows}
+use Rattle.sbl_semantics.specs.Landmarks.{Among, mode_under}
 use Rattle.sbl_ast.specs.Tree as trees
 use Rattle.sbl_ast.specs.Tree.{bracket, simple_, literal_, name_, non_, prefixed, counted, move_, named, splice_, setlimit_, assign_, compare_, compare_values_, among_, no_rows, row, no_others, joined}
 use Rattle.sbl_ast.specs.declared.mode.Mode.{Mode}

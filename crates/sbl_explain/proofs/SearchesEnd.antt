@@ -10,7 +10,7 @@ use Rattle.sbl_semantics.specs.inside.MeaningParts as parts
 use Rattle.sbl_semantics.specs.Meaning.{Offer, offers, search, takes, try_each}
 use Rattle.sbl_semantics.specs.inside.MeaningParts.{offering}
 use Rattle.sbl_semantics.specs.Items.{Body, DeclaredNames}
-use Rattle.sbl_semantics.specs.Regions.{Among}
+use Rattle.sbl_semantics.specs.Landmarks.{Among}
 use Rattle.sbl_compiler.proofs.SoundItems.{less_suc}
 use Rattle.sbl_semantics.specs.Events.{Event', Searches, Finds}
 use Rattle.sbl_semantics.specs.Choices.{take_none, take_string, touch_among}

@@ -1,7 +1,8 @@
 -- The amongs of a routine.
 use Rattle.std.specs.Prelude.{◌≡◌, ◌⊎◌, ℕ, suc, List, Option, Some}
 use Rattle.sbl_semantics.specs.Items.{Body, DeclaredNames, place_of}
-use Rattle.sbl_semantics.specs.Regions.{Among, among_at, number_after, number_after_others, number_after_rows, number_after_starter, mode_under}
+use Rattle.sbl_semantics.specs.Regions.{among_at, number_after, number_after_others, number_after_rows, number_after_starter}
+use Rattle.sbl_semantics.specs.Landmarks.{Among, mode_under}
 use Rattle.sbl_ast.specs.Tree as trees
 use Rattle.sbl_ast.specs.Tree.{bracket, simple_, literal_, name_, non_, prefixed, counted, move_, named, splice_, setlimit_, assign_, compare_}
 use Rattle.sbl_ast.specs.Tree.{compare_values_, among_, no_rows, row, no_others, joined, no_starter, starter, bare, group}

@@ -7,7 +7,7 @@ use Rattle.sbl_semantics.specs.Meaning.{Offer, calls, ending_with_events, offers
 use Rattle.sbl_semantics.specs.Outcome.{events_at, events_of}
 use Rattle.sbl_machine.specs.Why.{text_after}
 use Rattle.sbl_semantics.specs.Items.{Body, DeclaredNames, body_named, char_class_of, classes_after, known_in, place_of}
-use Rattle.sbl_semantics.specs.Regions.{Among}
+use Rattle.sbl_semantics.specs.Landmarks.{Among}
 use Rattle.sbl_semantics.specs.Events.{Event', Enters, Leaves, Searches, Finds, Puts}
 use Rattle.sbl_semantics.specs.declared.fault.RunFault.TheVariants as faults
 use Rattle.sbl_semantics.specs.State.{State, Ending, Signals, Stops, bound_of}

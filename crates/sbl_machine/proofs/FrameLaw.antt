@@ -17,7 +17,10 @@ use Rattle.sbl_semantics.specs.declared.touch.Touch.TheVariants.{Entered, Tested
 use Rattle.sbl_machine.specs.BuiltFrom.{IsClosed, IsClosedAt}
 use Rattle.sbl_machine.specs.Frame.{AgreeOutside, RunsAlike, Frame}
 use Rattle.sbl_machine.specs.Holes.{with_holes, others_with_holes, holed_script}
-use Rattle.sbl_semantics.specs.Meaning.{body_does, calls, start, ending}
+use Rattle.sbl_semantics.specs.Meaning.{start, ending}
+use Rattle.sbl_semantics.specs.inside.RegionRuns.{body_does, calls}
+use Rattle.sbl_semantics.specs.inside.RegionRuns as regions
+use Rattle.sbl_semantics.proofs.ByLandmarks.{ending_is}
 use Rattle.sbl_semantics.specs.inside.MeaningParts.{row_does}
 use Rattle.sbl_semantics.specs.Outcome.{outcome_at, used_at, touched_at, run_of, used_of, touches_of}
 use Rattle.sbl_semantics.specs.Control.{pay_first, enter, leave}
@@ -182,9 +185,17 @@ levels_kin picked l s closed word limit =
     (sym (ap (λ xs. run_on l xs s.external word limit) (order_holed picked s.items) ∙ holed_run picked l (in_order s.items) s.external word limit))
     (run_kin picked (in_order s.items) closed l s.external word limit)
 
+regions_kin : (picked : Item' → Bool) (s : Source) → IsClosed picked s → (word : List ℕ) (limit : ℕ) → Kin (marked_by picked (names_of s)) (regions.ending s word limit) (regions.ending (holed_script picked s) word limit)
+unfolding regions.ending
+regions_kin picked s closed word limit = levels_kin picked 32 s closed word limit
+
 ending_kin : (picked : Item' → Bool) (s : Source) → IsClosed picked s → (word : List ℕ) (limit : ℕ) → Kin (marked_by picked (names_of s)) (ending s word limit) (ending (holed_script picked s) word limit)
-unfolding ending
-ending_kin picked s closed word limit = levels_kin picked 32 s closed word limit
+ending_kin picked s closed word limit =
+    let is_marked = marked_by picked (names_of s) in
+    let same = ending_is s word limit in
+    let same_hole = ending_is (holed_script picked s) word limit in
+    subst (λ (e : Ending). Kin is_marked e (ending (holed_script picked s) word limit)) (sym same)
+    (subst (Kin is_marked (regions.ending s word limit)) (sym same_hole) (regions_kin picked s closed word limit))
 
 pub agree_names : (picked : Item' → Bool) (s t : Source) → AgreeOutside picked s t → names_of t ≡ names_of s
 agree_names picked s t agree = sym (names_same picked t) ∙ ap names_of (sym agree) ∙ names_same picked s

@@ -6,11 +6,13 @@ use Rattle.sbl_ast.specs.Tree as trees
 use Rattle.sbl_ast.specs.Tree.{bracket, simple_, literal_, name_, non_, prefixed, counted, move_, named, splice_, setlimit_, assign_, compare_, compare_values_, among_, no_rows, row, no_others, joined, no_starter, starter, bare, group, entry}
 use Rattle.sbl_ast.specs.declared.mode.Mode.{Mode}
 use Rattle.sbl_semantics.specs.Items.{DeclaredNames, place_of, is_member}
-use Rattle.sbl_semantics.specs.Regions.{Among, among_at, number_after, number_after_rows, number_after_others, number_after_starter, first, first_rows, first_others, mode_under, waits, waits_others}
+use Rattle.sbl_semantics.specs.Regions.{among_at, number_after, number_after_rows, number_after_others, number_after_starter, first, first_rows, first_others, waits, waits_others}
+use Rattle.sbl_semantics.specs.Landmarks.{Among, mode_under}
 use Rattle.sbl_semantics.specs.declared.touch.Touch.{Touch}
 use Rattle.sbl_semantics.specs.declared.touch.Touch.TheVariants.{Searched, Tested}
 use Rattle.sbl_machine.specs.Holes.{blank, blanks, blanks_rows, blanks_others, blanks_starter, blanks_groups, nothing, hole, with_holes, rows_with_holes, others_with_holes, starter_with_holes, groups_with_holes}
 use Rattle.sbl_semantics.specs.Meaning as meaning
+use Rattle.sbl_semantics.specs.inside.RegionRuns as regions
 use Rattle.sbl_semantics.specs.inside.MeaningParts as parts
 use Rattle.sbl_semantics.specs.Meaning.{offers, search, tests, worth, text}
 use Rattle.sbl_semantics.specs.Moves.{match, one_of}
@@ -26,7 +28,7 @@ use Rattle.sbl_machine.proofs.HoledTrees.{after_same, after_rows_same, after_oth
 
 module _ (picked : Touch → Bool) (ns : DeclaredNames) (class : List ℕ → ℕ → Bool) (call : List ℕ → Doing) (calls_grown : (n : List ℕ) (m : Mode) (s : State) → Grown picked s (call n m s)) where
   record RowsGrown (rs : trees.Rows) : Type 0 where
-    grown : (r : Mode) (k : ℕ) (w : Bool) (n : Option Among) (m : Mode) (s : State) → Grown picked s (meaning.rows_do ns class call r k w n rs m s)
+    grown : (r : Mode) (k : ℕ) (w : Bool) (n : Option Among) (m : Mode) (s : State) → Grown picked s (regions.rows_do ns class call r k w n rs m s)
 
   paid_grown : (d : Doing) (m : Mode) → ((s : State) → Grown picked s (d m s)) → (s : State) → Grown picked s (pay_first d m s)
   paid_grown d m h s = grown_after picked s (pay s.steps s) (d m) (Signals false) (same_grown picked s _ (pay_same s.steps s)) h (λ t. same_grown picked t _ refl)
@@ -39,8 +41,8 @@ module _ (picked : Touch → Bool) (ns : DeclaredNames) (class : List ℕ → �
       record {
         grown = λ r k w n m s.
             let next = first_rows r rs (suc k) n in
-            grown_after picked s (pay_first (meaning.act ns class call r k w next blank) m s) _ (Signals false)
-            (paid_grown (meaning.act ns class call r k w next blank) m
+            grown_after picked s (pay_first (regions.act ns class call r k w next blank) m s) _ (Signals false)
+            (paid_grown (regions.act ns class call r k w next blank) m
             (choosing_grown picked k w (finds call k [] r) (λ m t. Signals true t) (λ g t. Signals true t) m (finds_grown picked call calls_grown k [] r m) (λ t. same_grown picked t _ refl) (λ g t. same_grown picked t _ refl)) s)
             (λ t. h.grown r (suc k) false n m t)
             (λ t. same_grown picked t _ refl);
@@ -84,11 +86,11 @@ module _ (picked : Touch → Bool) (ns : DeclaredNames) (class : List ℕ → �
   abbrev pub in_hole : trees.Starter → trees.Groups → trees.Groups
   in_hole st gs = group (entry nothing None) [] (blanks_starter st (blanks_groups gs no_rows)) (bare [])
 
-  pub in_hole_grown : (st : trees.Starter) (gs : trees.Groups) (r : Mode) (k g : ℕ) (m : Mode) (s : State) → Grown picked s (meaning.group_does ns class call r k (in_hole st gs) g m s)
+  pub in_hole_grown : (st : trees.Starter) (gs : trees.Groups) (r : Mode) (k g : ℕ) (m : Mode) (s : State) → Grown picked s (regions.group_does ns class call r k (in_hole st gs) g m s)
   in_hole_grown st gs r k zero m s =
       let rs = blanks_starter st (blanks_groups gs no_rows) in
       let h : RowsGrown rs = blanks_starter_grown st (blanks_groups gs no_rows) (blanks_groups_grown gs no_rows no_rows_grown) in
-      paid_grown (meaning.rows_do ns class call r k false None rs) m (λ t. h.grown r k false None m t) s
+      paid_grown (regions.rows_do ns class call r k false None rs) m (λ t. h.grown r k false None m t) s
   in_hole_grown st gs r k (suc g) m s = same_grown picked s _ refl
 
 -- ---- a command and the same with holes, in the i-th routine
@@ -171,15 +173,15 @@ module _ (picked : Touch → Bool) (ns : DeclaredNames) (class class' : List ℕ
       (if_pair picked i (is_member (ns kinds.Groupings) x) _ _ _ _ (tests_pair true x m) ((calls_alike x).in_mode m)))
 
   abbrev does : Mode → ℕ → Bool → Option Among → trees.Command → Doing
-  does = meaning.act ns class call
+  does = regions.act ns class call
 
   abbrev does' : Mode → ℕ → Bool → Option Among → trees.Command → Doing
-  does' = meaning.act ns class' call'
+  does' = regions.act ns class' call'
 
   among_alike : (r : Mode) (k : ℕ) (w : Bool) (n n' : Option Among) (st : trees.Starter) (gs : trees.Groups) (b : Bool) → holes (suc k) ≡ b
-      → Alike picked i (meaning.starter_does ns class call r (suc k) st) (meaning.starter_does ns class' call' r (suc k) (starter_with_holes holes (suc k) st))
-      → ((g : ℕ) → Alike picked i (meaning.group_does ns class call r (number_after_starter st (suc k)) gs g)
-      (meaning.group_does ns class' call' r (number_after_starter (starter_with_holes holes (suc k) st) (suc k)) (groups_with_holes holes (number_after_starter st (suc k)) gs) g))
+      → Alike picked i (regions.starter_does ns class call r (suc k) st) (regions.starter_does ns class' call' r (suc k) (starter_with_holes holes (suc k) st))
+      → ((g : ℕ) → Alike picked i (regions.group_does ns class call r (number_after_starter st (suc k)) gs g)
+      (regions.group_does ns class' call' r (number_after_starter (starter_with_holes holes (suc k) st) (suc k)) (groups_with_holes holes (number_after_starter st (suc k)) gs) g))
       → Alike picked i (does r k w n (among_ st gs)) (does' r k w n' (if b then hole st gs else among_ (starter_with_holes holes (suc k) st) (groups_with_holes holes (number_after_starter st (suc k)) gs)))
   among_alike r k w n n' st gs true e starts groups =
       let calls_grown = grown_call' picked call call' i calls_alike in
@@ -187,8 +189,8 @@ module _ (picked : Touch → Bool) (ns : DeclaredNames) (class class' : List ℕ
       record {
         in_mode = λ m.
             hole_pair picked call call' i calls_alike k (spot k ∙ e) (offers 0 gs) (offers 0 inside) r r
-            (meaning.starter_does ns class call r (suc k) st) (λ m s. Signals true s)
-            (λ g. meaning.group_does ns class call r (number_after_starter st (suc k)) gs g m) (λ g. meaning.group_does ns class' call' r (suc k) inside g m) m
+            (regions.starter_does ns class call r (suc k) st) (λ m s. Signals true s)
+            (λ g. regions.group_does ns class call r (number_after_starter st (suc k)) gs g m) (λ g. regions.group_does ns class' call' r (suc k) inside g m) m
             (starts.in_mode m).grown (λ s. same_grown picked s _ refl) (λ g. ((groups g).in_mode m).grown) (λ g. in_hole_grown picked ns class' call' calls_grown st gs r (suc k) g m) w;
       }
   among_alike r k w n n' st gs false e starts groups =
@@ -197,8 +199,8 @@ module _ (picked : Touch → Bool) (ns : DeclaredNames) (class class' : List ℕ
       record {
         in_mode = λ m.
             choosing_pair picked call call' i calls_alike k w (finds call k (offers 0 gs) r) (finds call' k (offers 0 inside) r)
-            (meaning.starter_does ns class call r (suc k) st) (meaning.starter_does ns class' call' r (suc k) (starter_with_holes holes (suc k) st))
-            (λ g. meaning.group_does ns class call r (number_after_starter st (suc k)) gs g m) (λ g. meaning.group_does ns class' call' r l inside g m) m
+            (regions.starter_does ns class call r (suc k) st) (regions.starter_does ns class' call' r (suc k) (starter_with_holes holes (suc k) st))
+            (λ g. regions.group_does ns class call r (number_after_starter st (suc k)) gs g m) (λ g. regions.group_does ns class' call' r l inside g m) m
             (found_alike r k k (number_after_starter st (suc k)) gs e refl) starts (λ g. (groups g).in_mode m);
       }
 
@@ -235,7 +237,7 @@ module _ (picked : Touch → Bool) (ns : DeclaredNames) (class class' : List ℕ
         (among_alike r k w n n' st gs (holes (suc k)) refl (starter_alike st r (suc k) (suc k) refl)
         (λ g. groups_alike gs g r (number_after_starter st (suc k)) _ (after_starter_same holes st (suc k) (suc k) refl))))
 
-    rows_alike : (rs : trees.Rows) (r : Mode) (k k' : ℕ) (w w' : Bool) (n n' : Option Among) → k' ≡ k → w' ≡ w → Like n n' → Alike picked i (meaning.rows_do ns class call r k w n rs) (meaning.rows_do ns class' call' r k' w' n' (rows_with_holes holes k rs))
+    rows_alike : (rs : trees.Rows) (r : Mode) (k k' : ℕ) (w w' : Bool) (n n' : Option Among) → k' ≡ k → w' ≡ w → Like n n' → Alike picked i (regions.rows_do ns class call r k w n rs) (regions.rows_do ns class' call' r k' w' n' (rows_with_holes holes k rs))
     rows_alike no_rows r k k' w w' n n' p q h = record { in_mode = λ m. signals_pair picked i true }
     rows_alike (row c os rs) r k k' w w' n n' p q h =
         let p1 = after_same holes c k k' p in
@@ -252,7 +254,7 @@ module _ (picked : Touch → Bool) (ns : DeclaredNames) (class class' : List ℕ
               (λ s. signals_pair picked i false);
         }
 
-    pub others_alike : (os : trees.Others) (r : Mode) (k k' : ℕ) (w w' : Bool) (n n' : Option Among) (d d' : Doing) → k' ≡ k → w' ≡ w → Like n n' → Alike picked i d d' → Alike picked i (meaning.others_do ns class call r k w n os d) (meaning.others_do ns class' call' r k' w' n' (others_with_holes holes k os) d')
+    pub others_alike : (os : trees.Others) (r : Mode) (k k' : ℕ) (w w' : Bool) (n n' : Option Among) (d d' : Doing) → k' ≡ k → w' ≡ w → Like n n' → Alike picked i d d' → Alike picked i (regions.others_do ns class call r k w n os d) (regions.others_do ns class' call' r k' w' n' (others_with_holes holes k os) d')
     others_alike no_others r k k' w w' n n' d d' p q h a = a
     others_alike (joined j c os) r k k' w w' n n' d d' p q h a =
         let p1 = after_same holes c k k' p in
@@ -260,11 +262,11 @@ module _ (picked : Touch → Bool) (ns : DeclaredNames) (class class' : List ℕ
         others_alike os r (number_after c k) _ (waits c w) _ n n' _ _ p1 (waits_same holes c k w w' q) h
         (joined_alike picked i j _ _ _ _ (paid_alike picked i d d' a) (paid_alike picked i _ _ (act_alike c r k k' w w' _ _ p q h1)))
 
-    starter_alike : (st : trees.Starter) (r : Mode) (k k' : ℕ) → k' ≡ k → Alike picked i (meaning.starter_does ns class call r k st) (meaning.starter_does ns class' call' r k' (starter_with_holes holes k st))
+    starter_alike : (st : trees.Starter) (r : Mode) (k k' : ℕ) → k' ≡ k → Alike picked i (regions.starter_does ns class call r k st) (regions.starter_does ns class' call' r k' (starter_with_holes holes k st))
     starter_alike no_starter r k k' p = record { in_mode = λ m. signals_pair picked i true }
     starter_alike (starter rs) r k k' p = paid_alike picked i _ _ (rows_alike rs r k k' false false None None p refl none_like)
 
-    groups_alike : (gs : trees.Groups) (g : ℕ) (r : Mode) (k k' : ℕ) → k' ≡ k → Alike picked i (meaning.group_does ns class call r k gs g) (meaning.group_does ns class' call' r k' (groups_with_holes holes k gs) g)
+    groups_alike : (gs : trees.Groups) (g : ℕ) (r : Mode) (k k' : ℕ) → k' ≡ k → Alike picked i (regions.group_does ns class call r k gs g) (regions.group_does ns class' call' r k' (groups_with_holes holes k gs) g)
     groups_alike (bare es) g r k k' p = record { in_mode = λ m. signals_pair picked i true }
     groups_alike (group e es rs gs) zero r k k' p = paid_alike picked i _ _ (rows_alike rs r k k' false false None None p refl none_like)
     groups_alike (group e es rs gs) (suc g) r k k' p = groups_alike gs g r (number_after_rows rs k) _ (after_rows_same holes rs k k' p)

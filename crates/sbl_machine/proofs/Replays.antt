@@ -1,5 +1,5 @@
 -- The recorded events give the text and, but for tests of groupings, the touches: each command keeps this.
-use Rattle.std.proofs.Common.{◌≡◌, ℕ, zero, suc, ◌+◌, ◌-◌, Bool, true, false, List, [], ◌∷◌, ◌++◌, length, Option, Some, None, Ok, Err, refl, sym, ap, ◌∙◌}
+use Rattle.std.proofs.Common.{◌≡◌, ℕ, zero, suc, ◌+◌, ◌-◌, Bool, true, false, List, [], ◌∷◌, ◌++◌, length, Option, Some, None, Ok, Err, refl, sym, ap, subst, ◌∙◌}
 use Rattle.std.specs.Prelude.{ℤ, ◌&&◌, ◌||◌, cond, nat_le, nat_lt, nat_eq, if◌then◌else◌, slice_get, slice_index_or, slice_set, take}
 use Rattle.std.specs.List.{filter, list_any, splice, starts_with}
 use Rattle.std.proofs.lemmas.Bool.{true≢false}
@@ -29,7 +29,8 @@ use Rattle.sbl_ast.specs.declared.mode.Mode.{Mode}
 use Rattle.sbl_ast.specs.declared.mode.Mode.TheVariants.{Forward, Backward}
 use Rattle.sbl_semantics.specs.Fitting.{read_as, ahead_at}
 use Rattle.sbl_semantics.specs.Items.{DeclaredNames, Body, place_of, is_member, known_in, char_class_of, classes_after, body_named}
-use Rattle.sbl_semantics.specs.Regions.{Among, among_at, number_after, number_after_rows, number_after_others, number_after_starter, first, first_rows, first_others, mode_under, waits, waits_others}
+use Rattle.sbl_semantics.specs.Regions.{among_at, number_after, number_after_rows, number_after_others, number_after_starter, first, first_rows, first_others, waits, waits_others}
+use Rattle.sbl_semantics.specs.Landmarks.{Among, mode_under}
 use Rattle.sbl_semantics.specs.declared.cursor.SavedCursor.{SavedCursor}
 use Rattle.sbl_semantics.specs.declared.limits.Limits.{Limits}
 use Rattle.sbl_semantics.specs.declared.touch.Touch.{Touch}
@@ -47,6 +48,8 @@ use Rattle.sbl_semantics.specs.inside.ChoiceParts.{choose}
 use Rattle.sbl_semantics.specs.Slices.{is_slice, replace_slice, replace, keep, insert_string, put_in}
 use Rattle.sbl_semantics.specs.State.{State, Ending, Signals, Stops, Doing, bound_of, ahead, room, after, then_on, pay, at_place, at_difference, to_limit, saved_cursor, put_back, step_over, place_after, note_event}
 use Rattle.sbl_semantics.specs.Meaning as meaning
+use Rattle.sbl_semantics.specs.inside.RegionRuns as regions
+use Rattle.sbl_semantics.proofs.ByLandmarks.{telling_is}
 use Rattle.sbl_semantics.specs.inside.MeaningParts as parts
 use Rattle.sbl_semantics.specs.Meaning.{Offer, prefixed_does, counted_does, joined_does, limited_does, simple_does, moved_does, assigned_does, compared_does, named_does, edited_does, takes, try_each, search}
 use Rattle.sbl_semantics.specs.inside.MeaningParts.{begins}
@@ -360,7 +363,7 @@ module _ (word : List ℕ) where
         (if_keeps (is_member (ns kinds.Groupings) x) _ _ (class_keeps true (class x) m (touch_grouping (place_of (ns kinds.Groupings) x) s) (test_keeps (place_of (ns kinds.Groupings) x) s h)) (go x m s h)))
 
     abbrev does : Mode → ℕ → Bool → Option Among → trees.Command → Doing
-    does = meaning.act ns class call
+    does = regions.act ns class call
 
     mutual
       act_keeps : (t : trees.Command) (r : Mode) (i : ℕ) (w : Bool) (x : Option Among) → KeepsIn (does r i w x t)
@@ -382,38 +385,38 @@ module _ (word : List ℕ) where
       act_keeps (compare_ y o e) r i w x m s h = compared_keeps o (Ok (integer_at (place_of (ns kinds.Integers) y) s)) (meaning.worth ns e m s) s h
       act_keeps (compare_values_ e o f) r i w x m s h = compared_keeps o (meaning.worth ns e m s) (meaning.worth ns f m s) s h
       act_keeps (among_ st gs) r i w x m s h =
-          let begun = begins w (search call (among_at r i gs)) (meaning.starter_does ns class call r (suc i) st) m in
-          after_keeps (begun s) (λ t. with_group (choice i t) t (λ g. meaning.group_does ns class call r (number_after_starter st (suc i)) gs g m t)) (Signals false)
-          (begins_keep w (search call (among_at r i gs)) (meaning.starter_does ns class call r (suc i) st) (search_keeps call go (among_at r i gs)) (starter_keeps st r (suc i)) m s h)
+          let begun = begins w (search call (among_at r i gs)) (regions.starter_does ns class call r (suc i) st) m in
+          after_keeps (begun s) (λ t. with_group (choice i t) t (λ g. regions.group_does ns class call r (number_after_starter st (suc i)) gs g m t)) (Signals false)
+          (begins_keep w (search call (among_at r i gs)) (regions.starter_does ns class call r (suc i) st) (search_keeps call go (among_at r i gs)) (starter_keeps st r (suc i)) m s h)
           (λ t j. chosen_keeps (choice i t) t _ j (λ g. groups_keep gs r (number_after_starter st (suc i)) g m t j))
           (signals_keep false)
 
-      rows_keep : (rs : trees.Rows) (r : Mode) (i : ℕ) (w : Bool) (x : Option Among) → KeepsIn (meaning.rows_do ns class call r i w x rs)
+      rows_keep : (rs : trees.Rows) (r : Mode) (i : ℕ) (w : Bool) (x : Option Among) → KeepsIn (regions.rows_do ns class call r i w x rs)
       rows_keep no_rows r i w x m s h = h
       rows_keep (row c os rs) r i w x m s h =
           let x2 = first_rows r rs (number_after_others os (number_after c i)) x in
           let x1 = first_others r os (number_after c i) x2 in
-          let d = meaning.others_do ns class call r (number_after c i) (waits c w) x2 os (does r i w x1 c) in
-          after_keeps (pay_first d m s) (meaning.rows_do ns class call r (number_after_others os (number_after c i)) (waits_others os (waits c w)) x rs m) (Signals false)
+          let d = regions.others_do ns class call r (number_after c i) (waits c w) x2 os (does r i w x1 c) in
+          after_keeps (pay_first d m s) (regions.rows_do ns class call r (number_after_others os (number_after c i)) (waits_others os (waits c w)) x rs m) (Signals false)
           (paid_keeps d (others_keep os r (number_after c i) (waits c w) x2 (does r i w x1 c) (act_keeps c r i w x1)) m s h)
           (rows_keep rs r (number_after_others os (number_after c i)) (waits_others os (waits c w)) x m) (signals_keep false)
 
-      others_keep : (os : trees.Others) (r : Mode) (i : ℕ) (w : Bool) (x : Option Among) (d : Doing) → KeepsIn d → KeepsIn (meaning.others_do ns class call r i w x os d)
+      others_keep : (os : trees.Others) (r : Mode) (i : ℕ) (w : Bool) (x : Option Among) (d : Doing) → KeepsIn d → KeepsIn (regions.others_do ns class call r i w x os d)
       others_keep no_others r i w x d j m s h = j m s h
       others_keep (joined y c os) r i w x d j m s h =
           let e = does r i w (first_others r os (number_after c i) x) c in
           others_keep os r (number_after c i) (waits c w) x (joined_does y (pay_first d) (pay_first e)) (joined_keeps y (pay_first d) (pay_first e) (paid_keeps d j) (paid_keeps e (act_keeps c r i w (first_others r os (number_after c i) x)))) m s h
 
-      starter_keeps : (st : trees.Starter) (r : Mode) (i : ℕ) → KeepsIn (meaning.starter_does ns class call r i st)
+      starter_keeps : (st : trees.Starter) (r : Mode) (i : ℕ) → KeepsIn (regions.starter_does ns class call r i st)
       starter_keeps no_starter r i m s h = h
-      starter_keeps (starter rs) r i m s h = paid_keeps (meaning.rows_do ns class call r i false None rs) (rows_keep rs r i false None) m s h
+      starter_keeps (starter rs) r i m s h = paid_keeps (regions.rows_do ns class call r i false None rs) (rows_keep rs r i false None) m s h
 
-      groups_keep : (gs : trees.Groups) (r : Mode) (i g : ℕ) → KeepsIn (meaning.group_does ns class call r i gs g)
+      groups_keep : (gs : trees.Groups) (r : Mode) (i g : ℕ) → KeepsIn (regions.group_does ns class call r i gs g)
       groups_keep (bare es) r i g m s h = h
-      groups_keep (group e es rs gs) r i zero m s h = paid_keeps (meaning.rows_do ns class call r i false None rs) (rows_keep rs r i false None) m s h
+      groups_keep (group e es rs gs) r i zero m s h = paid_keeps (regions.rows_do ns class call r i false None rs) (rows_keep rs r i false None) m s h
       groups_keep (group e es rs gs) r i (suc g) m s h = groups_keep gs r (number_after_rows rs i) g m s h
 
-    body_keeps : (x : List ℕ) (b : Option Body) → KeepsIn (meaning.body_does ns class call x b)
+    body_keeps : (x : List ℕ) (b : Option Body) → KeepsIn (regions.body_does ns class call x b)
     body_keeps x None m s h = h
     body_keeps x (Some b) m s h =
         let d = parts.row_does ns class call b.mode b.first b.others in
@@ -425,9 +428,9 @@ module _ (word : List ℕ) where
         (λ t j. tell_keeps (Leaves true) (record t { choices = s.choices; routine = s.routine }) (λ t. refl) (λ t. refl) j)
         (λ t j. tell_keeps (Leaves false) (record t { choices = s.choices; routine = s.routine }) (λ t. refl) (λ t. refl) j)
 
-  calls_keep : (ns : DeclaredNames) (class : List ℕ → ℕ → Bool) (bodies : List ℕ → Option Body) (levels : ℕ) (x : List ℕ) → KeepsIn (meaning.calls ns class bodies levels x)
+  calls_keep : (ns : DeclaredNames) (class : List ℕ → ℕ → Bool) (bodies : List ℕ → Option Body) (levels : ℕ) (x : List ℕ) → KeepsIn (regions.calls ns class bodies levels x)
   calls_keep ns class bodies zero x m s h = h
-  calls_keep ns class bodies (suc levels) x m s h = body_keeps ns class (meaning.calls ns class bodies levels) (calls_keep ns class bodies levels) x (bodies x) m s h
+  calls_keep ns class bodies (suc levels) x m s h = body_keeps ns class (regions.calls ns class bodies levels) (calls_keep ns class bodies levels) x (bodies x) m s h
 
   stem_of : (e : Ending) (stem : List ℕ) → RecordedAt e → outcome_at e ≡ Stem stem → text_after word (events_at e) ≡ stem
   stem_of (Signals b s) stem h p = let same : s.text ≡ stem = cc in ap (λ o. text_after word (events_in o)) h.1 ∙ h.2 ∙ same
@@ -437,20 +440,23 @@ module _ (word : List ℕ) where
   touches_at (Signals b s) h = ap (λ o. touches_after [] (events_in o)) h.1 ∙ h.3
   touches_at (Stops fault s) h = ap (λ o. touches_after [] (events_in o)) h.1 ∙ h.3
 
-pub puts_give_the_stem : PutsGiveTheStem
-unfolding meaning.ending_with_events events_of
-puts_give_the_stem script word limit stem p =
+regions_recorded : (script : Source) (word : List ℕ) (limit : ℕ) → RecordedAt word (regions.ending_with_events script word limit)
+unfolding regions.ending_with_events
+regions_recorded script word limit =
     let items = in_order script.items in
     let known = known_in items in
-    stem_of word (meaning.ending_with_events script word limit) stem
-    (calls_keep word known (char_class_of (classes_after items [])) (body_named items) 32 script.external Forward (record (meaning.start known word limit) { events = Some [] }) ([], refl, refl, refl))
-    ((events_change_nothing script word limit).outcome ∙ p)
+    calls_keep word known (char_class_of (classes_after items [])) (body_named items) 32 script.external Forward (record (meaning.start known word limit) { events = Some [] }) ([], refl, refl, refl)
+
+all_recorded : (script : Source) (word : List ℕ) (limit : ℕ) → RecordedAt word (meaning.ending_with_events script word limit)
+all_recorded script word limit = subst (RecordedAt word) (sym (telling_is script word limit)) (regions_recorded script word limit)
+
+pub puts_give_the_stem : PutsGiveTheStem
+unfolding events_of
+puts_give_the_stem script word limit stem p =
+    stem_of word (meaning.ending_with_events script word limit) stem (all_recorded script word limit) ((events_change_nothing script word limit).outcome ∙ p)
 
 pub events_touch : EventsTouch
-unfolding meaning.ending_with_events events_of
+unfolding events_of
 events_touch script word limit =
-    let items = in_order script.items in
-    let known = known_in items in
-    touches_at word (meaning.ending_with_events script word limit)
-    (calls_keep word known (char_class_of (classes_after items [])) (body_named items) 32 script.external Forward (record (meaning.start known word limit) { events = Some [] }) ([], refl, refl, refl))
+    touches_at word (meaning.ending_with_events script word limit) (all_recorded script word limit)
     ∙ ap (filter is_no_test) (events_change_nothing script word limit).touches

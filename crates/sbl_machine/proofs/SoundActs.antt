@@ -26,6 +26,7 @@ use Rattle.sbl_semantics.specs.Items.{DeclaredNames, place_of, is_member}
 use Rattle.sbl_semantics.specs.Meaning.{prefixed_does, counted_does, joined_does, limited_does, simple_does, moved_does, named_does, edited_does, assigned_does, compared_does, worth}
 use Rattle.sbl_semantics.specs.inside.MeaningParts.{begins}
 use Rattle.sbl_semantics.specs.Meaning as meaning
+use Rattle.sbl_semantics.specs.inside.RegionRuns as regions
 use Rattle.sbl_semantics.specs.inside.MeaningParts as parts
 use Rattle.sbl_program.specs.Arithmetic.{characters, value, changed_value, holds}
 use Rattle.sbl_semantics.specs.Moves.{one_of, touch_grouping, match, set_mark, set_boolean, test_boolean}
@@ -36,7 +37,8 @@ use Rattle.sbl_compiler.specs.NumberedNumbers.{expression, text}
 use Rattle.sbl_semantics.specs.Numbers.{Value, continue_with, integer_at, with_value}
 use Rattle.sbl_program.specs.Program as programs
 use Rattle.sbl_program.specs.Terms.{class_at}
-use Rattle.sbl_semantics.specs.Regions.{Among, among_at, number_after, number_after_rows, number_after_others, number_after_starter, first, first_rows, first_others, mode_under, waits, waits_others}
+use Rattle.sbl_semantics.specs.Regions.{among_at, number_after, number_after_rows, number_after_others, number_after_starter, first, first_rows, first_others, waits, waits_others}
+use Rattle.sbl_semantics.specs.Landmarks.{Among, mode_under}
 use Rattle.sbl_program.specs.Run as run
 use Rattle.sbl_semantics.specs.Control as control
 use Rattle.sbl_semantics.specs.Control.{pay_first}
@@ -177,7 +179,7 @@ module _ (ns : Names) (known : DeclaredNames) (agree : Agree ns known) (classes 
       ∙ ap (λ f. after (pay_first (meaning.search call' a) m s) f (Signals false)) h
 
   abbrev does : Mode → ℕ → Bool → Option Among → trees.Command → Doing
-  does r k w n t = meaning.act known class call' r k w n t
+  does r k w n t = regions.act known class call' r k w n t
 
   mutual
     pub sound : (t : trees.Command) (r : Mode) (k : ℕ) (w : Bool) (n : Option Among) → does_as (made_command ns r k w n t) (does r k w n t)
@@ -202,10 +204,10 @@ module _ (ns : Names) (known : DeclaredNames) (agree : Agree ns known) (classes 
         let k' = number_after_starter st (suc k) in
         let bodies = made_groups ns r k' gs in
         let on_t = λ (t : State). control.with_group (choice k t) t (λ g. nth_does classes call bodies g m t) in
-        ap (λ e. after e on_t (Signals false)) (before_same w (among_at r k gs) (made_starter ns r (suc k) st) (meaning.starter_does known class call' r (suc k) st) m s (fun_ext (λ t. starter_sound st r (suc k) m t)))
-        ∙ ap (λ f. after (begins w (meaning.search call' (among_at r k gs)) (meaning.starter_does known class call' r (suc k) st) m s) (λ t. control.with_group (choice k t) t (λ g. f g t)) (Signals false)) (fun_ext (λ g. fun_ext (λ t. groups_sound gs r k' g m t)))
+        ap (λ e. after e on_t (Signals false)) (before_same w (among_at r k gs) (made_starter ns r (suc k) st) (regions.starter_does known class call' r (suc k) st) m s (fun_ext (λ t. starter_sound st r (suc k) m t)))
+        ∙ ap (λ f. after (begins w (meaning.search call' (among_at r k gs)) (regions.starter_does known class call' r (suc k) st) m s) (λ t. control.with_group (choice k t) t (λ g. f g t)) (Signals false)) (fun_ext (λ g. fun_ext (λ t. groups_sound gs r k' g m t)))
 
-    rows_sound : (rs : trees.Rows) (r : Mode) (k : ℕ) (w : Bool) (n : Option Among) (m : Mode) (s : State) → in_turn classes call (made_rows ns r k w n rs) m s ≡ meaning.rows_do known class call' r k w n rs m s
+    rows_sound : (rs : trees.Rows) (r : Mode) (k : ℕ) (w : Bool) (n : Option Among) (m : Mode) (s : State) → in_turn classes call (made_rows ns r k w n rs) m s ≡ regions.rows_do known class call' r k w n rs m s
     rows_sound no_rows r k w n m s = refl
     rows_sound (row c os rs) r k w n m s =
         let k1 = number_after c k in
@@ -215,10 +217,10 @@ module _ (ns : Names) (known : DeclaredNames) (agree : Agree ns known) (classes 
         let rest = made_rows ns r k2 (waits_others os (waits c w)) n rs in
         ap (λ d. after (pay_first d m s) (in_turn classes call rest m) (Signals false))
         (others_sound os r k1 (waits c w) n2 (made_command ns r k w n1 c) (does r k w n1 c) (fun_ext (λ m. fun_ext (λ s. sound c r k w n1 m s))))
-        ∙ ap (λ f. after (pay_first (meaning.others_do known class call' r k1 (waits c w) n2 os (does r k w n1 c)) m s) f (Signals false))
+        ∙ ap (λ f. after (pay_first (regions.others_do known class call' r k1 (waits c w) n2 os (does r k w n1 c)) m s) f (Signals false))
         (fun_ext (λ t. rows_sound rs r k2 (waits_others os (waits c w)) n m t))
 
-    pub others_sound : (os : trees.Others) (r : Mode) (k : ℕ) (w : Bool) (n : Option Among) (x : programs.Node) (d : Doing) → run.act classes call x ≡ d → run.act classes call (made_others ns r k w n os x) ≡ meaning.others_do known class call' r k w n os d
+    pub others_sound : (os : trees.Others) (r : Mode) (k : ℕ) (w : Bool) (n : Option Among) (x : programs.Node) (d : Doing) → run.act classes call x ≡ d → run.act classes call (made_others ns r k w n os x) ≡ regions.others_do known class call' r k w n os d
     others_sound no_others r k w n x d h = h
     others_sound (joined j c os) r k w n x d h =
         let n1 = first_others r os (number_after c k) n in
@@ -226,12 +228,12 @@ module _ (ns : Names) (known : DeclaredNames) (agree : Agree ns known) (classes 
         let e = does r k w n1 c in
         others_sound os r (number_after c k) (waits c w) n (join j x y) (joined_does j (pay_first d) (pay_first e)) (fun_ext (λ m. fun_ext (λ s. join_same j x y d e h (fun_ext (λ m. fun_ext (λ s. sound c r k w n1 m s))) m s)))
 
-    starter_sound : (st : trees.Starter) (r : Mode) (k : ℕ) (m : Mode) (s : State) → in_turn classes call (made_starter ns r k st) m s ≡ meaning.starter_does known class call' r k st m s
+    starter_sound : (st : trees.Starter) (r : Mode) (k : ℕ) (m : Mode) (s : State) → in_turn classes call (made_starter ns r k st) m s ≡ regions.starter_does known class call' r k st m s
     starter_sound no_starter r k m s = refl
     starter_sound (starter rs) r k m s =
         after_same _ ∙ ap (λ d. pay_first d m s) (fun_ext (λ m. fun_ext (λ s. rows_sound rs r k false None m s)))
 
-    groups_sound : (gs : trees.Groups) (r : Mode) (k : ℕ) (g : ℕ) (m : Mode) (s : State) → nth_does classes call (made_groups ns r k gs) g m s ≡ meaning.group_does known class call' r k gs g m s
+    groups_sound : (gs : trees.Groups) (r : Mode) (k : ℕ) (g : ℕ) (m : Mode) (s : State) → nth_does classes call (made_groups ns r k gs) g m s ≡ regions.group_does known class call' r k gs g m s
     groups_sound (bare es) r k g m s = refl
     groups_sound (group e es rs gs) r k zero m s = ap (λ d. pay_first d m s) (fun_ext (λ m. fun_ext (λ s. rows_sound rs r k false None m s)))
     groups_sound (group e es rs gs) r k (suc g) m s = groups_sound gs r (number_after_rows rs k) g m s

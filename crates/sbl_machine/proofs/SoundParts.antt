@@ -38,7 +38,7 @@ use Rattle.sbl_compiler.specs.NumberedNames.{Names, number_of}
 use Rattle.sbl_compiler.specs.NumberedNumbers.{text, constant, expression, sums_in, product, scales_in, factor}
 use Rattle.sbl_semantics.specs.Numbers.{Value, value_in_range, with_value, integer_at}
 use Rattle.sbl_program.specs.Program as programs
-use Rattle.sbl_semantics.specs.Regions.{Among}
+use Rattle.sbl_semantics.specs.Landmarks.{Among}
 use Rattle.sbl_program.specs.Search.{bound_in, condition_does, try_one, tries, search_strings, search_all}
 use Rattle.sbl_semantics.specs.Choices.{take_string, touch_among}
 use Rattle.sbl_semantics.specs.State.{State, bound_of, Ending, Signals, Doing, after, saved_cursor, place_after, then_on, pay}

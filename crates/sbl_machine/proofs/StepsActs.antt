@@ -23,7 +23,7 @@ use Rattle.sbl_ast.specs.declared.tree.Splice.TheVariants as splices
 use Rattle.sbl_ast.specs.Tree as trees
 use Rattle.sbl_semantics.specs.Fitting.{read_as, ahead_at}
 use Rattle.sbl_semantics.specs.Items.{DeclaredNames, place_of}
-use Rattle.sbl_semantics.specs.Regions.{Among}
+use Rattle.sbl_semantics.specs.Landmarks.{Among}
 use Rattle.sbl_semantics.specs.declared.fault.RunFault.TheVariants as faults
 use Rattle.sbl_semantics.specs.declared.limits.Limits.{Limits}
 use Rattle.sbl_semantics.specs.Meaning as meaning

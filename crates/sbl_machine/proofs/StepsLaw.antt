@@ -3,6 +3,8 @@ use Rattle.std.proofs.Common.{◌≡◌, ◌⊎◌, inl, inr, ℕ, zero, suc, �
 use Rattle.sbl_semantics.specs.declared.fault.RunFault.TheVariants as faults
 use Rattle.sbl_machine.specs.EnoughSteps.{RefusedForSteps, UsedStepsSuffice, UsedStepsTouch}
 use Rattle.sbl_semantics.specs.Meaning as meaning
+use Rattle.sbl_semantics.specs.inside.RegionRuns as regions
+use Rattle.sbl_semantics.proofs.ByLandmarks.{ending_is}
 use Rattle.sbl_semantics.specs.Outcome.{Refused, outcome_at, touched_at, used_at, run_of, touches_of, used_of}
 use Rattle.sbl_semantics.specs.State.{State, Ending, Signals, Stops}
 use Rattle.sbl_machine.proofs.Steps.{Within, Goes}
@@ -37,11 +39,16 @@ lower k l (Signals b s) e' h u = alike_sym (l + k) l e' (Signals b s) (ap outcom
 lower k l (Stops faults.Steps s) e' h u = absurd (too_many k l e' h.1 u)
 lower k l (Stops fault s) e' h u = (sym (ap outcome_at h.1), sym (ap (used_at (l + k)) h.1 ∙ steps_used_plus l k s), sym (ap touched_at h.1))
 
-ending_goes : (script : Source) (word : List ℕ) (limit k : ℕ) → Goes k (suc limit) (meaning.ending script word limit) (meaning.ending script word (limit + k))
-unfolding meaning.ending
-ending_goes script word limit k =
+regions_go : (script : Source) (word : List ℕ) (limit k : ℕ) → Goes k (suc limit) (regions.ending script word limit) (regions.ending script word (limit + k))
+unfolding regions.ending
+regions_go script word limit k =
     let items = in_order script.items in
     calls_go (known_in items) (char_class_of (classes_after items [])) (body_named items) 32 script.external Forward k (suc limit) (meaning.start (known_in items) word limit) (omega arith)
+
+ending_goes : (script : Source) (word : List ℕ) (limit k : ℕ) → Goes k (suc limit) (meaning.ending script word limit) (meaning.ending script word (limit + k))
+ending_goes script word limit k =
+    subst (λ (e : Ending). Goes k (suc limit) e (meaning.ending script word (limit + k))) (sym (ending_is script word limit))
+    (subst (Goes k (suc limit) (regions.ending script word limit)) (sym (ending_is script word (limit + k))) (regions_go script word limit k))
 
 -- of two numbers one is the other and some more
 apart : (a b : ℕ) → ((k : ℕ) × (a + k ≡ b)) ⊎ ((k : ℕ) × (b + k ≡ a))

@@ -11,7 +11,7 @@ use Rattle.sbl_machine.specs.Searches.{strings_read, amongs_of, TablesDiffer, Se
 use Rattle.sbl_compiler.specs.Laws.{names_in}
 use Rattle.sbl_compiler.specs.NumberedAmongs.{AmongStrings, strings_in, strings_after, found_of, found_command, found_rows, found_others, found_starter, found_groups, found_plain, found_after}
 use Rattle.sbl_compiler.specs.NumberedNames.{Names}
-use Rattle.sbl_semantics.specs.Regions.{mode_under}
+use Rattle.sbl_semantics.specs.Landmarks.{mode_under}
 use Rattle.sbl_resolver.specs.Amongs.{text_of, texts_of, IsSound, EachAmong, EachAmongOfRows, EachAmongOfOthers, EachAmongOfStarter, EachAmongOfGroups, EachAmongOfPlain, EachAmongOfPlains, EachAmongOfItems, AmongsAreSound}
 use Rattle.sbl_semantics.specs.Fitting.{fitting, read_all}
 use Rattle.sbl_program.specs.Laws.{AllDiffer, FittingAreMatches, Matches, StandsIn}

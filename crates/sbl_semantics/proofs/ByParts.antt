@@ -1,5 +1,5 @@
 -- Two scripts differ by their tokens as they do part by part.
-use Rattle.std.proofs.Common.{◌≡◌, ◌∙◌, ◌&&◌, ◌++◌, ℕ, suc, Bool, true, false, nat_eq, if◌then◌else◌, List, [], ◌∷◌, length, map, zip, Option, Some, None, refl, sym, ap, subst, arith}
+use Rattle.std.proofs.Common.{◌≡◌, ◌∙◌, ◌&&◌, ◌++◌, ◌+◌, ℕ, suc, Bool, true, false, nat_eq, if◌then◌else◌, List, [], ◌∷◌, length, map, zip, Option, Some, None, refl, sym, ap, subst, arith}
 use Rattle.std.specs.Bool.{then_some}
 use Rattle.std.specs.List.{list_any}
 use Rattle.std.specs.Cmp.Lexicographic.{pointwise}
@@ -40,6 +40,9 @@ use Rattle.sbl_semantics.specs.Regions.{number_after, number_after_rows, number_
 use Rattle.sbl_semantics.specs.Same.{same_argument, same_entry, same_expression, same_quoted, same_term}
 use Rattle.sbl_semantics.specs.TouchedItems.{Item', Routine, Among, Grouping}
 use Rattle.sbl_semantics.proofs.DiffersSelf.{self, plain_self}
+use Rattle.sbl_ast.specs.declared.mode.Mode.TheVariants.{Forward}
+use Rattle.sbl_semantics.specs.Landmarks.{amongs_in, landmarks, landmarks_in_others, landmarks_in_rows}
+use Rattle.sbl_semantics.proofs.LandmarkFacts.{number_is, number_others, number_rows, number_starter}
 use Rattle.sbl_semantics.proofs.NumberAfter.{after_is}
 use Rattle.sbl_semantics.proofs.SameParts.{both, name_is, simple_is, move_is, naming_is, splicing_is, assignment_is, comparison_is, kind_is, flag_is, quoted_is, argument_is, expression_is, entries_are, names_are, base_is, terms_are}
 use Rattle.sbl_semantics.proofs.SameSelf.{also, name_self, expression_self, entries_self}
@@ -231,23 +234,24 @@ module _ (one_tree : (w : Text) (t u : TreeOf w) → tokens_of w t ≡ tokens_of
     go true h = sym (subst (λ (u : Command). old.differ k c u ≡ Some []) (command_is c d h) (self c k))
     go false h = sym (e ∙ ap (λ (b : Bool). then_some b []) (is_false parts (λ p. true≢false (sym (back p) ∙ h))))
 
-  as_many : (s t : Starter) (gs hs : Groups) (k : ℕ) → nat_eq (number_after (among_ s gs) k) (number_after (among_ t hs) k) ≡ nat_eq (count_in_among (s, gs)) (count_in_among (t, hs))
-  as_many s t gs hs k =
-      let x = after_is (among_ s gs) k in
-      let y = after_is (among_ t hs) k in
-      agree _ _
-      (λ h. let e = eqb-true (number_after (among_ s gs) k) (number_after (among_ t hs) k) h in eq-eqb (count_in_among (s, gs)) (count_in_among (t, hs)) (omega (arith, x, y, e)))
-      (λ h. let e = eqb-true (count_in_among (s, gs)) (count_in_among (t, hs)) h in eq-eqb (number_after (among_ s gs) k) (number_after (among_ t hs) k) (omega (arith, x, y, e)))
+  many : (s : Starter) (gs : Groups) → amongs_in (landmarks Forward (among_ s gs)) ≡ count_in_among (s, gs)
+  many s gs = let x = after_is (among_ s gs) 0 in let y = number_is (among_ s gs) Forward 0 in omega (arith, x, y)
+
+  as_many : (s t : Starter) (gs hs : Groups)
+      → nat_eq (amongs_in (landmarks Forward (among_ s gs))) (amongs_in (landmarks Forward (among_ t hs))) ≡ nat_eq (count_in_among (s, gs)) (count_in_among (t, hs))
+  as_many s t gs hs = (λ i. nat_eq (many s gs i) (many t hs i))
 
   mutual
     commands : (k : ℕ) (c d : Command) → new.differ k c d ≡ old.differ k c d
     commands k (bracket rs) (bracket ss) = rows k rs ss
     commands k (prefixed x c) (prefixed y d) = ap (λ (r : Option (List ℕ)). if sameb prefix.the_type x y then r else None) (commands k c d)
     commands k (counted x e c) (counted y f d) = two_flags (sameb times.the_type x y) _ _ _ _ (expressions e f) (commands k c d)
-    commands k (setlimit_ b c) (setlimit_ d e) = joins _ _ _ _ (commands k b d) (commands (number_after b k) c e)
+    commands k (setlimit_ b c) (setlimit_ d e) =
+        joins _ _ _ _ (commands k b d) (ap (λ (j : ℕ). new.differ j c e) (sym (number_is b Forward k)) ∙ commands (number_after b k) c e)
     commands k (among_ s gs) (among_ t hs) =
-        let inside = joins _ _ _ _ (starters (suc k) s t) (groups (number_after_starter s (suc k)) gs hs) in
-        let whole = some_if _ _ (suc k ∷ []) (as_many s t gs hs k) in
+        let later = ap (λ (j : ℕ). new.differ_groups j gs hs) (sym (number_starter s Forward (suc k))) ∙ groups (number_after_starter s (suc k)) gs hs in
+        let inside = joins _ _ _ _ (starters (suc k) s t) later in
+        let whole = some_if _ _ (suc k ∷ []) (as_many s t gs hs) in
         (λ i. option_or (inside i) (whole i))
     commands k (simple_ x) (simple_ y) = leaf k (simple_ x) (simple_ y) (sameb simple.the_type x y) (λ h. ap simple_ (simple_is x y h)) refl
     commands k (literal_ x) (literal_ y) = leaf k (literal_ x) (literal_ y) (same_quoted x y) (λ h. ap literal_ (quoted_is x y h)) refl
@@ -281,14 +285,21 @@ module _ (one_tree : (w : Text) (t u : TreeOf w) → tokens_of w t ≡ tokens_of
     rows : (k : ℕ) (rs ss : Rows) → new.differ_rows k rs ss ≡ old.differ_rows k rs ss
     rows k no_rows no_rows = refl
     rows k (row c os rs) (row d ps ss) =
-        joins _ _ _ _ (commands k c d) (joins _ _ _ _ (others (number_after c k) os ps) (rows (number_after_others os (number_after c k)) rs ss))
+        let j = number_after c k in
+        let l = number_after_others os j in
+        let in_others = ap (λ (j : ℕ). new.differ_others j os ps) (sym (number_is c Forward k)) ∙ others j os ps in
+        let from : k + amongs_in (landmarks Forward c) + amongs_in (landmarks_in_others Forward os) ≡ l =
+        let x = number_is c Forward k in let y = number_others os Forward j in omega (arith, x, y) in
+        let in_rows = ap (λ (j : ℕ). new.differ_rows j rs ss) from ∙ rows l rs ss in
+        joins _ _ _ _ (commands k c d) (joins _ _ _ _ in_others in_rows)
     rows k no_rows (row d ps ss) = ap (λ (b : Bool). then_some b []) (none_row d _)
     rows k (row c os rs) no_rows = ap (λ (b : Bool). then_some b []) (row_none c _)
 
     others : (k : ℕ) (os ps : Others) → new.differ_others k os ps ≡ old.differ_others k os ps
     others k no_others no_others = refl
     others k (joined x c os) (joined y d ps) =
-        let both_parts = joins _ _ _ _ (commands k c d) (others (number_after c k) os ps) in
+        let in_others = ap (λ (j : ℕ). new.differ_others j os ps) (sym (number_is c Forward k)) ∙ others (number_after c k) os ps in
+        let both_parts = joins _ _ _ _ (commands k c d) in_others in
         ap (λ (r : Option (List ℕ)). if sameb joiner.the_type x y then r else None) both_parts
     others k no_others (joined y d ps) = refl
     others k (joined x c os) no_others = refl
@@ -302,8 +313,9 @@ module _ (one_tree : (w : Text) (t u : TreeOf w) → tokens_of w t ≡ tokens_of
     groups : (k : ℕ) (gs hs : Groups) → new.differ_groups k gs hs ≡ old.differ_groups k gs hs
     groups k (bare es) (bare fs) = ap (λ (b : Bool). then_some b []) (entries_same es fs)
     groups k (group e es rs gs) (group f fs ss hs) =
-        let rest = joins _ _ _ _ (rows k rs ss) (groups (number_after_rows rs k) gs hs) in
-        ap (λ (b : Bool). new.join (then_some b []) (new.join (new.differ_rows k rs ss) (new.differ_groups (number_after_rows rs k) gs hs))) (entries_same (e ∷ es) (f ∷ fs))
+        let in_groups = ap (λ (j : ℕ). new.differ_groups j gs hs) (sym (number_rows rs Forward k)) ∙ groups (number_after_rows rs k) gs hs in
+        let rest = joins _ _ _ _ (rows k rs ss) in_groups in
+        ap (λ (b : Bool). new.join (then_some b []) (new.join (new.differ_rows k rs ss) (new.differ_groups (k + amongs_in (landmarks_in_rows Forward rs)) gs hs))) (entries_same (e ∷ es) (f ∷ fs))
         ∙ join_then_some (pointwise same_entry (e ∷ es) (f ∷ fs)) _ _ rest
     groups k (bare es) (group f fs ss hs) =
         ap (λ (b : Bool). then_some b []) (is_false (alike (placed_groups (bare es) 1 []) (placed_groups (group f fs ss hs) 1 [])) (λ h. bare_group es fs f ss hs (alike_are _ _ h)))
@@ -331,8 +343,9 @@ module _ (one_tree : (w : Text) (t u : TreeOf w) → tokens_of w t ≡ tokens_of
 
   bodies : (c d : Command) (os ps : Others) → new.differ_rows 0 (row c os no_rows) (row d ps no_rows) ≡ old.join (old.differ 0 c d) (old.differ_others (number_after c 0) os ps)
   bodies c d os ps =
-      join_none (new.differ 0 c d) (new.differ_others (number_after c 0) os ps)
-      ∙ joins _ _ _ _ (commands 0 c d) (others (number_after c 0) os ps)
+      let in_others = ap (λ (j : ℕ). new.differ_others j os ps) (sym (number_is c Forward 0)) ∙ others (number_after c 0) os ps in
+      join_none (new.differ 0 c d) (new.differ_others (0 + amongs_in (landmarks Forward c)) os ps)
+      ∙ joins _ _ _ _ (commands 0 c d) in_others
 
   groupings : (m n : List ℕ) (a b : Argument) (xs ys : List Term) → new.differ_plain (grouping m a xs) (grouping n b ys) ≡ old.differ_plain (grouping m a xs) (grouping n b ys)
   groupings m n a b xs ys = go (alike (placed_plain (grouping m a xs) []) (placed_plain (grouping n b ys) [])) refl where

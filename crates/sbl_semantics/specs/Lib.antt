@@ -11,6 +11,7 @@ pub mod Control
 pub mod Choices
 pub mod Limit
 pub mod Items
+pub mod Landmarks
 pub mod Regions
 pub mod Meaning
 pub mod Outcome

@@ -40,8 +40,8 @@ use Rattle.sbl_semantics.specs.Items.{DeclaredNames, Body, is_member, place_of, 
 use Rattle.sbl_semantics.specs.Moves.{match, one_of, hop, at_mark, to_mark}
 use Rattle.sbl_semantics.specs.Numbers.{Value, natural, continue_with, value_in_range}
 use Rattle.sbl_semantics.specs.Numbers.{rounded_quotient, with_value, with_both, limit_value, integer_at}
-use Rattle.sbl_semantics.specs.Regions.{Among, number_after, number_after_rows, number_after_others}
-use Rattle.sbl_semantics.specs.Regions.{number_after_starter, first, first_rows, first_others, mode_under, waits, waits_others}
+use Rattle.sbl_semantics.specs.Landmarks.{Among, Landmark, among_for, amongs_in, ends_in_substring, landmarks, landmarks_in_others}
+use Rattle.sbl_semantics.specs.Landmarks.{landmarks_in_rows, landmarks_in_starter, mode_under}
 use Rattle.sbl_semantics.specs.Control.{turns, times, seeks, set_limit, at_end, pay_first, enter, back_in}
 use Rattle.sbl_semantics.specs.Choices.{touch_among, conclude_search}
 use Rattle.sbl_semantics.specs.Slices.{is_forward, set_end, replace, keep, put_in}
@@ -254,68 +254,68 @@ module _ (ns : DeclaredNames) (class : List ℕ → ℕ → Bool) (call : List �
       if is_member (ns kinds.Groupings) n then tests ns class true n m s else
       call n m s
 
-  abbrev mutual
-    -- What a command does after its step is paid. r is the mode of its place. k is the number of amongs before it in
-    -- its routine. w says whether a `substring` of its region waits for an among. n is the next among of its region
-    -- after the command; a `substring` without one signals f. An among first makes its own search, and on t runs its
-    -- starter; if a `substring` waits for it, that search has been made, and the among skips both.
-    pub act : Mode → ℕ → Bool → Option Among → trees.Command → Doing
-    act r k w n (bracket rs) m s = rows_do r k w n rs m s
-    act r k w n (simple_ x) m s = simple_does (λ m s. option_map_or (λ a. search call a m s) n (Signals false s)) x m s
-    act r k w n (literal_ q) m s = match q.value m s
-    act r k w n (name_ x) m s = name_does x m s
-    act r k w n (non_ b x) m s = tests ns class false x m s
-    act r k w n (prefixed x c) m s = prefixed_does x (pay_first (act (mode_under x r) k w n c)) m s
-    act r k w n (counted x e c) m s = counted_does x (worth ns e m s) (pay_first (act r k w n c)) m s
-    act r k w n (move_ x e) m s = moved_does x (worth ns e m s) m s
-    act r k w n (named x y) m s = named_does ns x y m s
-    act r k w n (splice_ x a) m s = edited_does x (text ns a s) m s
-    act r k w n (setlimit_ b c) m s =
-        limited_does (pay_first (act r k w (first r c (number_after b k) n) b)) (pay_first (act r (number_after b k) (waits b w) n c)) m s
-    act r k w n (assign_ x o e) m s = assigned_does (place_of (ns kinds.Integers) x) o (worth ns e m s) s
-    act r k w n (compare_ x o e) m s = compared_does (Ok (integer_at (place_of (ns kinds.Integers) x) s)) o (worth ns e m s) s
-    act r k w n (compare_values_ e o f) m s = compared_does (worth ns e m s) o (worth ns f m s) s
-    act r k w n (among_ st gs) m s =
-        after
-        (if w then Signals true s
-        else after (pay_first (search call (record { number = k; mode = r; groups = gs })) m s) (starter_does r (suc k) st m) (Signals false))
-        (λ t. option_map_or (λ g. group_does r (number_after_starter st (suc k)) gs g m t) (slice_index_or t.choices k None) (Signals false t))
-        (Signals false)
+  -- a search at the landmark with number i of a routine with these landmarks; a `substring` without an among signals f
+  abbrev pub search_at : List Landmark → ℕ → Doing
+  search_at ls i m s = option_map_or (λ a. search call a m s) (among_for ls i) (Signals false s)
 
-    -- runs the rows in order, up to the first that signals f
-    pub rows_do : Mode → ℕ → Bool → Option Among → trees.Rows → Doing
-    rows_do r k w n no_rows m s = Signals true s
-    rows_do r k w n (row c os rs) m s =
-        after
-        (pay_first (others_do r (number_after c k) (waits c w) (first_rows r rs (number_after_others os (number_after c k)) n) os
-        (act r k w (first_others r os (number_after c k) (first_rows r rs (number_after_others os (number_after c k)) n)) c)) m s)
-        (rows_do r (number_after_others os (number_after c k)) (waits_others os (waits c w)) n rs m) (Signals false)
+  module _ (ls : List Landmark) where
+    abbrev mutual
+      -- What a command does after its step is paid, in a routine with these landmarks. r is the mode of its place, and i
+      -- the number of landmarks before it. An among first makes its own search, and on t runs its starter; if a
+      -- `substring` belongs to it, that search has been made, and the among skips both.
+      pub act : Mode → ℕ → trees.Command → Doing
+      act r i (bracket rs) m s = rows_do r i rs m s
+      act r i (simple_ x) m s = simple_does (search_at ls i) x m s
+      act r i (literal_ q) m s = match q.value m s
+      act r i (name_ x) m s = name_does x m s
+      act r i (non_ b x) m s = tests ns class false x m s
+      act r i (prefixed x c) m s = prefixed_does x (pay_first (act (mode_under x r) i c)) m s
+      act r i (counted x e c) m s = counted_does x (worth ns e m s) (pay_first (act r i c)) m s
+      act r i (move_ x e) m s = moved_does x (worth ns e m s) m s
+      act r i (named x y) m s = named_does ns x y m s
+      act r i (splice_ x a) m s = edited_does x (text ns a s) m s
+      act r i (setlimit_ b c) m s = limited_does (pay_first (act r i b)) (pay_first (act r (i + length (landmarks r b)) c)) m s
+      act r i (assign_ x o e) m s = assigned_does (place_of (ns kinds.Integers) x) o (worth ns e m s) s
+      act r i (compare_ x o e) m s = compared_does (Ok (integer_at (place_of (ns kinds.Integers) x) s)) o (worth ns e m s) s
+      act r i (compare_values_ e o f) m s = compared_does (worth ns e m s) o (worth ns f m s) s
+      act r i (among_ st gs) m s =
+          let before = take i ls in
+          after
+          (if ends_in_substring before then Signals true s
+          else after (pay_first (search_at ls i) m s) (starter_does r (i + 1) st m) (Signals false))
+          (λ t. option_map_or (λ g. group_does r (i + 1 + length (landmarks_in_starter r st)) gs g m t)
+          (slice_index_or t.choices (amongs_in before) None) (Signals false t)) (Signals false)
 
-    -- joins commands from the left: d is what the commands so far do
-    pub others_do : Mode → ℕ → Bool → Option Among → trees.Others → Doing → Doing
-    others_do r k w n no_others d m s = d m s
-    others_do r k w n (joined j c os) d m s =
-        others_do r (number_after c k) (waits c w) n os
-        (joined_does j (pay_first d) (pay_first (act r k w (first_others r os (number_after c k) n) c))) m s
+      -- runs the rows in order, up to the first that signals f
+      pub rows_do : Mode → ℕ → trees.Rows → Doing
+      rows_do r i no_rows m s = Signals true s
+      rows_do r i (row c os rs) m s =
+          after (pay_first (others_do r (i + length (landmarks r c)) os (act r i c)) m s)
+          (rows_do r (i + length (landmarks r c) + length (landmarks_in_others r os)) rs m) (Signals false)
 
-    pub starter_does : Mode → ℕ → trees.Starter → Doing
-    starter_does r k no_starter m s = Signals true s
-    starter_does r k (starter rs) m s = pay_first (rows_do r k false None rs) m s
+      -- joins commands from the left: d is what the commands so far do
+      pub others_do : Mode → ℕ → trees.Others → Doing → Doing
+      others_do r i no_others d m s = d m s
+      others_do r i (joined j c os) d m s = others_do r (i + length (landmarks r c)) os (joined_does j (pay_first d) (pay_first (act r i c))) m s
 
-    -- the command of group number g; t if that group has none
-    pub group_does : Mode → ℕ → trees.Groups → ℕ → Doing
-    group_does r k (bare es) g m s = Signals true s
-    group_does r k (group e es rs gs) zero m s = pay_first (rows_do r k false None rs) m s
-    group_does r k (group e es rs gs) (suc g) m s = group_does r (number_after_rows rs k) gs g m s
+      pub starter_does : Mode → ℕ → trees.Starter → Doing
+      starter_does r i no_starter m s = Signals true s
+      starter_does r i (starter rs) m s = pay_first (rows_do r i rs) m s
+
+      -- the command of group number g; t if that group has none
+      pub group_does : Mode → ℕ → trees.Groups → ℕ → Doing
+      group_does r i (bare es) g m s = Signals true s
+      group_does r i (group e es rs gs) zero m s = pay_first (rows_do r i rs) m s
+      group_does r i (group e es rs gs) (suc g) m s = group_does r (i + length (landmarks_in_rows r rs) + 1) gs g m s
 
   -- A call touches the routine and begins with nothing chosen. When it returns, the caller's choices are restored.
   abbrev pub body_does : List ℕ → Option Body → Doing
   body_does n None m s = Signals false s
   body_does n (Some b) m s =
+      let ls = landmarks b.mode b.first ++ landmarks_in_others b.mode b.others in
       at_end (back_in s.routine s.choices)
-      (pay_first (others_do b.mode (number_after b.first 0) (waits b.first false) None b.others
-      (act b.mode 0 false (first_others b.mode b.others (number_after b.first 0) None) b.first))
-      m (enter (place_of (ns kinds.Routines) n) (number_after_others b.others (number_after b.first 0)) s))
+      (pay_first (others_do ls b.mode (length (landmarks b.mode b.first)) b.others (act ls b.mode 0 b.first)) m
+      (enter (place_of (ns kinds.Routines) n) (amongs_in ls) s))
 
 -- ---- runs
 

@@ -1,19 +1,11 @@
--- The regions of a routine, and the amongs in them: a routine's body, a group's command and a starter are a region
--- each, and a `substring` belongs to the next `among` of its own region.
+-- The regions of a routine, command by command: the number of amongs, whether a `substring` waits for one, and which comes next.
 use Rattle.std.specs.Prelude.{ℕ, suc, Bool, true, false, Option, Some}
-use Rattle.sbl_ast.specs.declared.tree.Prefix.{Prefix}
-use Rattle.sbl_ast.specs.declared.tree.Prefix.TheVariants as prefixes
 use Rattle.sbl_ast.specs.declared.tree.Simple.TheVariants as simples
 use Rattle.sbl_ast.specs.Tree as trees
 use Rattle.sbl_ast.specs.Tree.{bracket, simple_, prefixed, counted, setlimit_, among_, no_rows}
 use Rattle.sbl_ast.specs.Tree.{row, no_others, joined, no_starter, starter, bare, group}
 use Rattle.sbl_ast.specs.declared.mode.Mode.{Mode}
-use Rattle.sbl_ast.specs.declared.mode.Mode.TheVariants.{Backward}
-
--- the mode of a command after a prefix
-abbrev pub mode_under : Prefix → Mode → Mode
-mode_under prefixes.Backwards m = Backward
-mode_under x m = m
+use Rattle.sbl_semantics.specs.Landmarks.{Among, mode_under}
 
 -- the number of the next among after a command, if it is k before the command
 abbrev mutual
@@ -59,12 +51,6 @@ abbrev mutual
   pub waits_others : trees.Others → Bool → Bool
   waits_others no_others w = w
   waits_others (joined j c os) w = waits_others os (waits c w)
-
--- an among: the number of amongs before it in its routine, the mode at its position, and its groups
-pub record Among : Type 0 where
-  pub number : ℕ
-  pub mode : Mode
-  pub groups : trees.Groups
 
 abbrev mutual
   -- the first among of a command, with k amongs before the command in the routine; or else the next one of the region

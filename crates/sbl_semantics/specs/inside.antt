@@ -3,3 +3,4 @@ pub mod ChoiceParts
 pub mod ControlParts
 pub mod EventParts
 pub mod MoveParts
+pub mod RegionRuns

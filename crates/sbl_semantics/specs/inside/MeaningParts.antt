@@ -1,4 +1,4 @@
--- Names for parts of the definitions of Meaning, which only proofs use.
+-- Names for parts of the definitions of Meaning.antt and RegionRuns.antt, which only proofs use.
 use Rattle.std.specs.Prelude.{ℕ, suc, Bool, true, false, List, length, nat_eq, if◌then◌else◌, Option, None}
 use Rattle.std.specs.List.{find}
 use Rattle.std.specs.Option.{option_map_or}
@@ -8,8 +8,10 @@ use Rattle.sbl_ast.specs.declared.mode.Mode.{Mode}
 use Rattle.sbl_semantics.specs.Control.{pay_first}
 use Rattle.sbl_semantics.specs.Fitting.{read_as, ahead_at}
 use Rattle.sbl_semantics.specs.Items.{DeclaredNames}
-use Rattle.sbl_semantics.specs.Meaning.{Offer, offers, try_each, search, act, others_do}
-use Rattle.sbl_semantics.specs.Regions.{Among, number_after, first_others, waits}
+use Rattle.sbl_semantics.specs.Meaning.{Offer, offers, try_each, search}
+use Rattle.sbl_semantics.specs.inside.RegionRuns.{act, others_do}
+use Rattle.sbl_semantics.specs.Landmarks.{Among}
+use Rattle.sbl_semantics.specs.Regions.{number_after, first_others, waits}
 use Rattle.sbl_semantics.specs.State.{Doing, Signals, after, bound_of}
 
 abbrev pub begins : Bool → Doing → Doing → Doing
