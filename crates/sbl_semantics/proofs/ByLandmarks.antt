@@ -63,24 +63,24 @@ module _ {ls : List Landmark} {i k : ℕ} {w : Bool} {n : Option Among} where
       }
 
   module _ (own : List Landmark) (h : At ls own i k w n) where
-    taken : take i ls ≡ h.before
-    taken =
+    before_is : take i ls ≡ h.before
+    before_is =
         let p : take i ls ≡ take (length h.before) (h.before ++ (own ++ h.rest)) = (λ x. take (h.place x) (h.parts x)) in
         p ∙ take-append_seam h.before (own ++ h.rest)
 
-    dropped : drop i ls ≡ own ++ h.rest
-    dropped =
+    rest_is : drop i ls ≡ own ++ h.rest
+    rest_is =
         let p : drop i ls ≡ drop (length h.before) (h.before ++ (own ++ h.rest)) = (λ x. drop (h.place x) (h.parts x)) in
         p ∙ drop-append_seam h.before (own ++ h.rest)
 
     number_here : amongs_in (take i ls) ≡ k
-    number_here = ap amongs_in taken ∙ sym h.number
+    number_here = ap amongs_in before_is ∙ sym h.number
 
     waits_here : ends_in_substring (take i ls) ≡ w
-    waits_here = ap ends_in_substring taken ∙ sym h.wait
+    waits_here = ap ends_in_substring before_is ∙ sym h.wait
 
     among_here : among_for ls i ≡ next_among k (own ++ h.rest)
-    among_here = (λ x. next_among (number_here x) (dropped x))
+    among_here = (λ x. next_among (number_here x) (rest_is x))
 
 module _ (ns : DeclaredNames) (class : List ℕ → ℕ → Bool) (call : List ℕ → Doing) where
   -- a search of the among that comes next, if there is one
