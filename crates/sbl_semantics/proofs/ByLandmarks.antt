@@ -33,8 +33,8 @@ record At (ls own : List Landmark) (i k : ℕ) (w : Bool) (n : Option Among) : T
   next : n ≡ next_among (k + amongs_in own) rest
 
 module _ {ls : List Landmark} {i k : ℕ} {w : Bool} {n : Option Among} where
-  left : (a b : List Landmark) (x : Option Among) (h : At ls (a ++ b) i k w n) → x ≡ next_among (k + amongs_in a) (b ++ h.rest) → At ls a i k w x
-  left a b x h e = record {
+  first_part : (a b : List Landmark) (x : Option Among) (h : At ls (a ++ b) i k w n) → x ≡ next_among (k + amongs_in a) (b ++ h.rest) → At ls a i k w x
+  first_part a b x h e = record {
     before = h.before;
     rest = b ++ h.rest;
     parts = h.parts ∙ ap (λ (y : List Landmark). h.before ++ y) (append_assoc a b h.rest);
@@ -44,8 +44,8 @@ module _ {ls : List Landmark} {i k : ℕ} {w : Bool} {n : Option Among} where
     next = e;
   }
 
-  right : (a b : List Landmark) (j : ℕ) (v : Bool) → At ls (a ++ b) i k w n → j ≡ k + amongs_in a → v ≡ waits_through a w → At ls b (i + length a) j v n
-  right a b j v h e f =
+  second_part : (a b : List Landmark) (j : ℕ) (v : Bool) → At ls (a ++ b) i k w n → j ≡ k + amongs_in a → v ≡ waits_through a w → At ls b (i + length a) j v n
+  second_part a b j v h e f =
       let p = h.place in
       let q = h.number in
       let l = length-append h.before a in
@@ -127,8 +127,8 @@ module _ (ns : DeclaredNames) (class : List ℕ → ℕ → Bool) (call : List �
         let following : n ≡ next_among (number_after c j) h.rest = h.next ∙ ap (λ (y : ℕ). next_among y h.rest) (sym (number_is (setlimit_ b c) r k)) in
         let next : first r c j n ≡ next_among (k + amongs_in (landmarks r b)) (landmarks r c ++ h.rest) =
         first_is c r j n h.rest following ∙ ap (λ (y : ℕ). next_among y (landmarks r c ++ h.rest)) (number_is b r k) in
-        let at_b = left (landmarks r b) (landmarks r c) (first r c j n) h next in
-        let at_c = right (landmarks r b) (landmarks r c) j (waits b w) h (number_is b r k) (waits_is b r w) in
+        let at_b = first_part (landmarks r b) (landmarks r c) (first r c j n) h next in
+        let at_c = second_part (landmarks r b) (landmarks r c) j (waits b w) h (number_is b r k) (waits_is b r w) in
         let path_b : new.act ns class call ls r i b ≡ old.act ns class call r k w (first r c j n) b = fun_ext (λ m. fun_ext (λ s. acts b ls r i k w (first r c j n) at_b m s)) in
         let path_c : new.act ns class call ls r (i + length (landmarks r b)) c ≡ old.act ns class call r j (waits b w) n c =
         fun_ext (λ m. fun_ext (λ s. acts c ls r (i + length (landmarks r b)) j (waits b w) n at_c m s)) in
@@ -139,9 +139,9 @@ module _ (ns : DeclaredNames) (class : List ℕ → ℕ → Bool) (call : List �
     acts (among_ st gs) ls r i k w n h m s =
         let own = landmarks r (among_ st gs) in
         let one : suc k ≡ k + 1 = omega arith in
-        let inside = right (among r gs ∷ []) (landmarks_in_starter r st ++ landmarks_in_groups r gs) (suc k) false h one refl in
-        let at_starter = left (landmarks_in_starter r st) (landmarks_in_groups r gs) (next_among (suc k + amongs_in (landmarks_in_starter r st)) (landmarks_in_groups r gs ++ h.rest)) inside refl in
-        let at_groups = right (landmarks_in_starter r st) (landmarks_in_groups r gs) (number_after_starter st (suc k)) false inside (number_starter st r (suc k)) (sym (none_after_starter st r)) in
+        let inside = second_part (among r gs ∷ []) (landmarks_in_starter r st ++ landmarks_in_groups r gs) (suc k) false h one refl in
+        let at_starter = first_part (landmarks_in_starter r st) (landmarks_in_groups r gs) (next_among (suc k + amongs_in (landmarks_in_starter r st)) (landmarks_in_groups r gs ++ h.rest)) inside refl in
+        let at_groups = second_part (landmarks_in_starter r st) (landmarks_in_groups r gs) (number_after_starter st (suc k)) false inside (number_starter st r (suc k)) (sym (none_after_starter st r)) in
         let path_search : new.search_at ns class call ls i ≡ search call (among_at r k gs) =
         fun_ext (λ m. fun_ext (λ s. ap (λ (o : Option Among). ahead o m s) (among_here own h))) in
         let path_starter : new.starter_does ns class call ls r (i + 1) st m ≡ old.starter_does ns class call r (suc k) st m =
@@ -166,10 +166,10 @@ module _ (ns : DeclaredNames) (class : List ℕ → ℕ → Bool) (call : List �
         let next1 : n1 ≡ next_among (k + amongs_in own_c) ((own_os ++ own_rs) ++ h.rest) =
         first_others_is os r k1 n2 (own_rs ++ h.rest) next2 ∙ ap (next_among k1) (sym (append_assoc own_os own_rs h.rest))
         ∙ ap (λ (y : ℕ). next_among y ((own_os ++ own_rs) ++ h.rest)) (number_is c r k) in
-        let at_c = left own_c (own_os ++ own_rs) n1 h next1 in
-        let at_more = right own_c (own_os ++ own_rs) k1 (waits c w) h (number_is c r k) (waits_is c r w) in
-        let at_os = left own_os own_rs n2 at_more (next2 ∙ ap (λ (y : ℕ). next_among y (own_rs ++ h.rest)) (number_others os r k1)) in
-        let at_rs = right own_os own_rs k2 (waits_others os (waits c w)) at_more (number_others os r k1) (waits_others_is os r (waits c w)) in
+        let at_c = first_part own_c (own_os ++ own_rs) n1 h next1 in
+        let at_more = second_part own_c (own_os ++ own_rs) k1 (waits c w) h (number_is c r k) (waits_is c r w) in
+        let at_os = first_part own_os own_rs n2 at_more (next2 ∙ ap (λ (y : ℕ). next_among y (own_rs ++ h.rest)) (number_others os r k1)) in
+        let at_rs = second_part own_os own_rs k2 (waits_others os (waits c w)) at_more (number_others os r k1) (waits_others_is os r (waits c w)) in
         let path_c : new.act ns class call ls r i c ≡ old.act ns class call r k w n1 c = fun_ext (λ m. fun_ext (λ s. acts c ls r i k w n1 at_c m s)) in
         let path_os = others_act os ls r (i + length own_c) k1 (waits c w) n2 (new.act ns class call ls r i c) (old.act ns class call r k w n1 c) at_os path_c in
         let path_rs : new.rows_do ns class call ls r (i + length own_c + length own_os) rs m ≡ old.rows_do ns class call r k2 (waits_others os (waits c w)) n rs m =
@@ -187,8 +187,8 @@ module _ (ns : DeclaredNames) (class : List ℕ → ℕ → Bool) (call : List �
         let following : n ≡ next_among (number_after_others os k1) h.rest = h.next ∙ ap (λ (y : ℕ). next_among y h.rest) (sym (number_others (joined j c os) r k)) in
         let next1 : n1 ≡ next_among (k + amongs_in own_c) (own_os ++ h.rest) =
         first_others_is os r k1 n h.rest following ∙ ap (λ (y : ℕ). next_among y (own_os ++ h.rest)) (number_is c r k) in
-        let at_c = left own_c own_os n1 h next1 in
-        let at_os = right own_c own_os k1 (waits c w) h (number_is c r k) (waits_is c r w) in
+        let at_c = first_part own_c own_os n1 h next1 in
+        let at_os = second_part own_c own_os k1 (waits c w) h (number_is c r k) (waits_is c r w) in
         let path_c : new.act ns class call ls r i c ≡ old.act ns class call r k w n1 c = fun_ext (λ m. fun_ext (λ s. acts c ls r i k w n1 at_c m s)) in
         let path_join : joined_does j (pay_first d) (pay_first (new.act ns class call ls r i c)) ≡ joined_does j (pay_first e) (pay_first (old.act ns class call r k w n1 c)) =
         (λ x. joined_does j (pay_first (p x)) (pay_first (path_c x))) in
@@ -198,20 +198,20 @@ module _ (ns : DeclaredNames) (class : List ℕ → ℕ → Bool) (call : List �
         → new.starter_does ns class call ls r i st m s ≡ old.starter_does ns class call r k st m s
     starter_acts no_starter ls r i k n h m s = refl
     starter_acts (starter rs) ls r i k n h m s =
-        let at_rs = left (landmarks_in_rows r rs) (region_end ∷ []) None h refl in
+        let at_rs = first_part (landmarks_in_rows r rs) (region_end ∷ []) None h refl in
         ap (λ (d : Doing). pay_first d m s) (fun_ext (λ m. fun_ext (λ s. rows_act rs ls r i k false None at_rs m s)))
 
     groups_act : (gs : Groups) (ls : List Landmark) (r : Mode) (i k : ℕ) (n : Option Among) → At ls (landmarks_in_groups r gs) i k false n → (g : ℕ) (m : Mode) (s : State)
         → new.group_does ns class call ls r i gs g m s ≡ old.group_does ns class call r k gs g m s
     groups_act (bare es) ls r i k n h g m s = refl
     groups_act (group e es rs gs) ls r i k n h zero m s =
-        let at_rs = left (landmarks_in_rows r rs) (region_end ∷ landmarks_in_groups r gs) None h refl in
+        let at_rs = first_part (landmarks_in_rows r rs) (region_end ∷ landmarks_in_groups r gs) None h refl in
         ap (λ (d : Doing). pay_first d m s) (fun_ext (λ m. fun_ext (λ s. rows_act rs ls r i k false None at_rs m s)))
     groups_act (group e es rs gs) ls r i k n h (suc g) m s =
         let own_rs = landmarks_in_rows r rs in
         let j = number_after_rows rs k in
-        let at_end_ = right own_rs (region_end ∷ landmarks_in_groups r gs) j (waits_rows rs false) h (number_rows rs r k) (waits_rows_is rs r false) in
-        let at_gs = right (region_end ∷ []) (landmarks_in_groups r gs) j false at_end_ (none_more j) refl in
+        let at_end_ = second_part own_rs (region_end ∷ landmarks_in_groups r gs) j (waits_rows rs false) h (number_rows rs r k) (waits_rows_is rs r false) in
+        let at_gs = second_part (region_end ∷ []) (landmarks_in_groups r gs) j false at_end_ (none_more j) refl in
         groups_act gs ls r (i + length own_rs + 1) j n at_gs g m s
 
   -- ---- a routine
@@ -236,9 +236,9 @@ module _ (ns : DeclaredNames) (class : List ℕ → ℕ → Bool) (call : List �
       } in
       let next1 : n1 ≡ next_among (0 + amongs_in own_c) (own_os ++ []) =
       first_others_is b.others r k1 None [] refl ∙ ap (λ (y : ℕ). next_among y (own_os ++ [])) (number_is b.first r 0) in
-      let at_c = left own_c own_os n1 whole next1 in
+      let at_c = first_part own_c own_os n1 whole next1 in
       let start : 0 + length own_c ≡ length own_c = omega arith in
-      let at_os = subst (λ (i : ℕ). At ls own_os i k1 (waits b.first false) None) start (right own_c own_os k1 (waits b.first false) whole (number_is b.first r 0) (waits_is b.first r false)) in
+      let at_os = subst (λ (i : ℕ). At ls own_os i k1 (waits b.first false) None) start (second_part own_c own_os k1 (waits b.first false) whole (number_is b.first r 0) (waits_is b.first r false)) in
       let path_c : new.act ns class call ls r 0 b.first ≡ old.act ns class call r 0 false n1 b.first = fun_ext (λ m. fun_ext (λ s. acts b.first ls r 0 0 false n1 at_c m s)) in
       let path_os = others_act b.others ls r (length own_c) k1 (waits b.first false) None _ _ at_os path_c in
       let f = number_is b.first r 0 in
