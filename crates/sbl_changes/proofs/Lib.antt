@@ -1,1 +1,4 @@
+pub mod ClassFacts
+pub mod RowSteps
+pub mod RowFacts
 pub mod ChangeReportFacts

@@ -9,11 +9,11 @@ ghost use Rattle.sbl_changes.specs.ChangeReports as spec;
 ghost use Rattle.sbl_reports.specs.Reports as reports;
 ghost use Rattle.sbl_reports.specs.Reports.{change_fields};
 
+use crate::few::changes_of_few;
 use csv::ByteRecord;
 use sbl_bench::{Bench, Row};
 use sbl_io::push_line;
 use sbl_reports::{Record, records_text};
-use sbl_row_diff::changes_of_few;
 use sbl_rows::ChangeRow;
 use std::alloc::{AllocError, Global};
 

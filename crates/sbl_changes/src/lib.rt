@@ -2,5 +2,9 @@
 #![tactic(auto)]
 
 mod change_reports;
+mod few;
+mod noted;
+mod text_set;
+mod unlike;
 
 pub use change_reports::{change_figures_text, changes_text, first_changes_text};
