@@ -1,6 +1,6 @@
 //! sbl_bench: the rows and classes of a vocabulary, its edits, and why they are refused.
 
-use crate::common::{displays, field, letters, lists, parse_body, parse_text, text_of};
+use crate::common::{field, letters, lists, parse_body, parse_text, text_of};
 use sbl_bench::{Bench, Class, EditFault, Row, ScriptFault, WordKeys, differences};
 use sbl_machine::{Item, Outcome};
 use sbl_script::Script;
@@ -292,31 +292,5 @@ fn a_bench_is_opened_or_refused(rt: HostRuntime) -> Result<(), Fail> {
     let mut words = lists(alloc, "a,b")?;
     words.push(vec![in alloc; 'a'; 256]?)?;
     assert!(rt; fault_over(alloc, words)? == Some(EditFault::WordTooLong));
-    Ok(())
-}
-
-#[test]
-fn the_faults_of_a_bench_are_displayed(rt: HostRuntime) -> Result<(), Fail> {
-    let words = [
-        EditFault::Present,
-        EditFault::Absent,
-        EditFault::EmptyWord,
-        EditFault::WordTooLong,
-        EditFault::Full,
-        EditFault::NoRoutine,
-        EditFault::NoAmong,
-    ];
-    let want = "40 Present;41 Absent;42 EmptyWord;43 WordTooLong;44 Full;45 NoRoutine;46 NoAmong;";
-    assert_eq!(rt; displays(rt.alloc(), &words)?.as_str(), want);
-    let others = [
-        EditFault::AmongCount,
-        EditFault::Script(ScriptFault::Undeclared { item: 4 }),
-        EditFault::OutOfMemory,
-        EditFault::MeterFull,
-        EditFault::BadLimit,
-        EditFault::NoGrouping,
-    ];
-    let want = "47 AmongCount;48 Undeclared;49 OutOfMemory;50 MeterFull;51 BadLimit;53 NoGrouping;";
-    assert_eq!(rt; displays(rt.alloc(), &others)?.as_str(), want);
     Ok(())
 }

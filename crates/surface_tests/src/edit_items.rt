@@ -1,7 +1,7 @@
 //! sbl_script: the three edits of a script, and why they are refused.
 
-use crate::common::{displays, field, parse_text};
-use sbl_script::{EditFault, Script, ScriptFault};
+use crate::common::{field, parse_text};
+use sbl_script::{EditFault, Script};
 use std::alloc::{AllocError, Global};
 use std::test::Fail;
 
@@ -108,21 +108,5 @@ fn an_edit_leaves_the_script_alone(rt: HostRuntime) -> Result<(), Fail> {
     assert!(rt; made.as_str() == REGROUPED && kept.as_str() == GROUPED);
     let (made, kept) = print_edit(alloc, "GROUPINGS", "routine stem", "next")?;
     assert!(rt; made.as_str() == REWRITTEN && kept.as_str() == GROUPED);
-    Ok(())
-}
-
-#[test]
-fn the_faults_of_edits_have_their_numbers(rt: HostRuntime) -> Result<(), Fail> {
-    let faults = [
-        EditFault::NoRoutine,
-        EditFault::NoAmong,
-        EditFault::AmongCount,
-        EditFault::Script(ScriptFault::TooDeep { place: 3 }),
-        EditFault::NoGrouping,
-        EditFault::OutOfMemory,
-    ];
-    let want =
-        "45 NoRoutine;46 NoAmong;47 AmongCount;48 8 TooDeep at 3;53 NoGrouping;49 OutOfMemory;";
-    assert_eq!(rt; displays(rt.alloc(), &faults)?.as_str(), want);
     Ok(())
 }

@@ -11,6 +11,8 @@ mod device_items;
 #[cfg(test)]
 mod edit_items;
 #[cfg(test)]
+mod fault_items;
+#[cfg(test)]
 mod machine_items;
 #[cfg(test)]
 mod program_items;

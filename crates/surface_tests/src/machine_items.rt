@@ -2,10 +2,9 @@
 
 ghost use Rattle.std.specs.Prelude.{◌≤◌, length, IfOk};
 
-use crate::common::{displays, field, letters, lists, number, parse_body, parse_text, text_of};
+use crate::common::{field, letters, lists, number, parse_body, parse_text, text_of};
 use sbl_machine::{
-    AmongSearch, Item, LinkedTable, Machine, Meter, Outcome, PlainTable, Ran, RunFault, RunStop,
-    ScriptFault,
+    AmongSearch, Item, LinkedTable, Machine, Meter, Outcome, PlainTable, Ran, RunStop, ScriptFault,
 };
 use sbl_script::{Mode, Script};
 use std::alloc::{AllocError, Global};
@@ -184,24 +183,5 @@ fn a_run_gives_its_outcome_its_steps_and_what_it_touched(rt: HostRuntime) -> Res
         drop(script);
         done?;
     }
-    Ok(())
-}
-
-#[test]
-fn the_faults_of_runs_are_displayed(rt: HostRuntime) -> Result<(), Fail> {
-    let faults = [
-        RunFault::Steps,
-        RunFault::Depth,
-        RunFault::Slice,
-        RunFault::Cursor,
-        RunFault::Integer,
-        RunFault::Divide,
-        RunFault::TooLong,
-    ];
-    let want = "60 Steps;61 Depth;62 Slice;63 Cursor;64 Integer;65 Divide;66 TooLong;";
-    assert_eq!(rt; displays(rt.alloc(), &faults)?.as_str(), want);
-    let stops = [RunStop::OutOfMemory, RunStop::MeterFull];
-    let want = "49 OutOfMemory;50 MeterFull;";
-    assert_eq!(rt; displays(rt.alloc(), &stops)?.as_str(), want);
     Ok(())
 }

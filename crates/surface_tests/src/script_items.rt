@@ -1,6 +1,6 @@
 //! sbl_script: trees, parsing and printing, and the faults of a script.
 
-use crate::common::{displays, field, parse_body, parse_text};
+use crate::common::{field, parse_body, parse_text};
 use sbl_script::{Among, Command, Grouping, Mode, Plain, Script, ScriptFault, ScriptItem};
 use std::alloc::{AllocError, Global};
 use std::test::Fail;
@@ -136,38 +136,5 @@ fn bytes_are_a_text_that_is_not_too_long(rt: HostRuntime) -> Result<(), Fail> {
     let long = vec![in alloc; b' '; 1_048_577]?;
     let fault = fault_text(alloc, Script::parse(alloc, &long, "stem"))?;
     assert_eq!(rt; fault.as_str(), "24 ScriptTooLong");
-    Ok(())
-}
-
-#[test]
-fn the_faults_of_a_script_have_a_place_or_an_item(rt: HostRuntime) -> Result<(), Fail> {
-    let faults = [
-        ScriptFault::Syntax { place: 7 },
-        ScriptFault::TooDeep { place: 8 },
-        ScriptFault::OutOfProfile { place: 20 },
-        ScriptFault::NoExternal,
-        ScriptFault::NotUtf8,
-        ScriptFault::ScriptTooLong,
-        ScriptFault::OutOfMemory,
-    ];
-    let want =
-        "7 Syntax at 7;8 TooDeep at 8;20 OutOfProfile at 20;21 NoExternal;23 NotUtf8;24 ScriptTooLong;49 OutOfMemory;";
-    assert_eq!(rt; displays(rt.alloc(), &faults)?.as_str(), want);
-    let faults = [
-        ScriptFault::DeclaredTwice { item: 1 },
-        ScriptFault::Undeclared { item: 1 },
-        ScriptFault::WrongKind { item: 1 },
-        ScriptFault::DefinedTwice { item: 1 },
-        ScriptFault::Undefined { item: 1 },
-        ScriptFault::WrongMode { item: 1 },
-        ScriptFault::Substring { item: 1 },
-        ScriptFault::Starter { item: 1 },
-        ScriptFault::RepeatedString { item: 1 },
-        ScriptFault::EmptyAmong { item: 1 },
-        ScriptFault::NestedBackwards { item: 1 },
-    ];
-    let want =
-        "9 DeclaredTwice in item 1;10 Undeclared in item 1;11 WrongKind in item 1;12 DefinedTwice in item 1;13 Undefined in item 1;14 WrongMode in item 1;15 Substring in item 1;16 Starter in item 1;17 RepeatedString in item 1;18 EmptyAmong in item 1;19 NestedBackwards in item 1;";
-    assert_eq!(rt; displays(rt.alloc(), &faults)?.as_str(), want);
     Ok(())
 }

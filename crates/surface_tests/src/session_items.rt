@@ -1,8 +1,7 @@
 //! snowbench: lines, sessions, checks, and why they end early.
 
-use crate::common::{PREFIXES, displays, field_lines, parse_text};
+use crate::common::{PREFIXES, field_lines, parse_text};
 use crate::device_items::{Single, Slow};
-use sbl_bench::EditFault;
 use snowbench::{
     Device, Lines, LoadFault, ScriptFault, ServeFault, Sink, Source, WordKeys, check, load,
     load_with_keys, serve,
@@ -203,28 +202,5 @@ fn a_check_counts_differences(rt: HostRuntime) -> Result<(), Fail> {
             "{row}"
         );
     }
-    Ok(())
-}
-
-#[test]
-fn the_faults_of_sessions_are_displayed(rt: HostRuntime) -> Result<(), Fail> {
-    let faults = [
-        ServeFault::Read,
-        ServeFault::Write,
-        ServeFault::LineTooLong,
-        ServeFault::Cut,
-        ServeFault::LengthsDiffer,
-        ServeFault::NotText,
-        ServeFault::OutOfMemory,
-    ];
-    let want = "70 Read;71 Write;72 LineTooLong;73 Cut;74 LengthsDiffer;75 NotText;49 OutOfMemory;";
-    assert_eq!(rt; displays(rt.alloc(), &faults)?.as_str(), want);
-    let others = [
-        LoadFault::Input(ServeFault::Cut),
-        LoadFault::Script(ScriptFault::UnclosedString { place: 34 }),
-        LoadFault::Open(EditFault::Full),
-    ];
-    let want = "73 Cut;2 UnclosedString at 34;44 Full;";
-    assert_eq!(rt; displays(rt.alloc(), &others)?.as_str(), want);
     Ok(())
 }

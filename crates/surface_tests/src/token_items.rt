@@ -1,6 +1,6 @@
 //! sbl_text: tokens, escapes, literals, codes, and the faults of a text.
 
-use crate::common::{displays, letters, text_of};
+use crate::common::{letters, text_of};
 use sbl_text::{Escapes, Kind, Lexer, ScriptFault, Token, Value, read_codes, read_literal};
 use std::alloc::{AllocError, Global};
 use std::process::Abort;
@@ -114,6 +114,15 @@ const LITERALS: &[(&str, &str)] = &[
     ("{U+D800}", "5 BadCode at 0"),
     ("a'b", "1 BadCharacter at 1"),
     ("ab{", "2 UnclosedString at 0"),
+    ("{\n}{}", ""),
+    ("{ ss }", "4 UnknownEscape at 0"),
+    ("{u+e4}", "4 UnknownEscape at 0"),
+    ("\u{e4}{U+0000041}", "5 BadCode at 2"),
+    ("{U+}", "5 BadCode at 0"),
+    ("a'b{", "2 UnclosedString at 0"),
+    ("{zz}\n", "2 UnclosedString at 0"),
+    ("{zz}'", "4 UnknownEscape at 0"),
+    ("'{zz}", "1 BadCharacter at 0"),
 ];
 
 /// Asserts what each literal means, and what a lexer gives, under these escapes.
@@ -147,6 +156,8 @@ const CODES: &[(bool, &str, &str)] = &[
     (false, "98", "b"),
     (true, "", ""),
     (true, "110000", "5 BadCode at 0"),
+    (false, " ", ""),
+    (false, "9a", "5 BadCode at 0"),
 ];
 
 #[test]
@@ -157,21 +168,5 @@ fn codes_are_read(rt: HostRuntime) -> Result<(), Fail> {
         let shown = read_text(alloc, read_codes(alloc, *hex, &codes))?;
         assert_eq!(rt; shown.as_str(), *want);
     }
-    Ok(())
-}
-
-#[test]
-fn the_faults_of_a_text_have_a_place(rt: HostRuntime) -> Result<(), Fail> {
-    let faults = [
-        ScriptFault::BadCharacter { place: 1 },
-        ScriptFault::UnclosedString { place: 2 },
-        ScriptFault::UnclosedComment { place: 3 },
-        ScriptFault::UnknownEscape { place: 4 },
-        ScriptFault::BadCode { place: 5 },
-        ScriptFault::NumberTooLarge { place: 6 },
-    ];
-    let want =
-        "1 BadCharacter at 1;2 UnclosedString at 2;3 UnclosedComment at 3;4 UnknownEscape at 4;5 BadCode at 5;6 NumberTooLarge at 6;";
-    assert_eq!(rt; displays(rt.alloc(), &faults)?.as_str(), want);
     Ok(())
 }

@@ -4,13 +4,11 @@ use crate::tests::grouping_edits::{GROUPING_EDITS, GROUPING_TEXTS};
 use crate::tests::script::{fault_in, repeat_part, script_of};
 use crate::tests::script_edits::{AMONG_TEXTS, SCRIPT_EDITS};
 use sbl_script::laws::canonical_is_read;
-use sbl_script::{EditFault, Part, Script, ScriptFault};
+use sbl_script::{Part, Script};
 use std::alloc::{AllocError, Global};
 use std::process::Abort;
 use std::test::Fail;
-use test_support::{
-    PLURALS, PORTER, SCRIPT_PREFIX, field, print_values, with_line_feeds, with_scripts,
-};
+use test_support::{PLURALS, PORTER, SCRIPT_PREFIX, field, with_line_feeds, with_scripts};
 
 /// The part of a text such as `routine NAME`, `among NAME 2` and `grouping NAME`.
 fn part_in(text: &str) -> Part<'_> {
@@ -180,20 +178,4 @@ fn a_routine_with_its_own_text_is_the_same(rt: HostRuntime) {
         routines = routines.saturating_add(1);
     }
     assert_eq!(rt; routines, 12);
-}
-
-#[test]
-fn faults_of_edits_are_printed_with_their_numbers(rt: HostRuntime) -> Result<(), Fail> {
-    let faults = [
-        EditFault::NoRoutine,
-        EditFault::NoAmong,
-        EditFault::AmongCount,
-        EditFault::Script(ScriptFault::Undeclared { item: 2 }),
-        EditFault::OutOfMemory,
-        EditFault::NoGrouping,
-    ];
-    let want =
-        "45 NoRoutine;46 NoAmong;47 AmongCount;48 10 Undeclared in item 2;49 OutOfMemory;53 NoGrouping;";
-    assert_eq!(rt; print_values(rt.alloc(), &faults)?.as_str(), want);
-    Ok(())
 }

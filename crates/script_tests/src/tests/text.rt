@@ -1,13 +1,10 @@
-//! Tests of the tokens of texts, of literals and codes, and of the text of faults. tests/cases has rows of faults.
+//! Tests of the tokens of texts, and of codes. tests/cases has rows of faults, surface_tests has literals and the texts of faults.
 
-use sbl_text::{
-    Coding, Escapes, Lexer, ScriptFault, Sign, Token, Value, Word, macro_value, read_codes,
-    read_literal, tokens,
-};
+use sbl_text::{Coding, Lexer, Sign, Token, Value, Word, macro_value, read_codes, tokens};
 use std::alloc::{AllocError, Global};
 use std::process::Abort;
 use std::test::Fail;
-use test_support::{letters, print_values, text_of};
+use test_support::{letters, text_of};
 
 /// A token as its kind, its first byte, the byte after it, and its value if it has one.
 fn token_text(alloc: Global, token: &Token<'_>) -> Result<String, AllocError> {
@@ -165,42 +162,6 @@ fn a_fault_and_the_end_are_given_again(rt: HostRuntime) -> Result<(), Fail> {
 }
 
 #[test]
-fn faults_are_printed_with_number_and_place(rt: HostRuntime) -> Result<(), Fail> {
-    let placed = [
-        ScriptFault::UnknownEscape { place: 7 },
-        ScriptFault::BadCode { place: 16 },
-        ScriptFault::Syntax { place: 30 },
-        ScriptFault::TooDeep { place: 1 },
-        ScriptFault::DeclaredTwice { item: 1 },
-        ScriptFault::Undeclared { item: 2 },
-        ScriptFault::WrongKind { item: 2 },
-        ScriptFault::DefinedTwice { item: 3 },
-        ScriptFault::Undefined { item: 3 },
-        ScriptFault::WrongMode { item: 4 },
-        ScriptFault::Substring { item: 4 },
-        ScriptFault::Starter { item: 5 },
-        ScriptFault::RepeatedString { item: 5 },
-        ScriptFault::EmptyAmong { item: 6 },
-        ScriptFault::NestedBackwards { item: 6 },
-        ScriptFault::OutOfProfile { place: 9 },
-    ];
-    assert_eq!(rt; print_values(rt.alloc(), &placed)?.as_str(), PLACED);
-    let others = [
-        ScriptFault::NoExternal,
-        ScriptFault::NotUtf8,
-        ScriptFault::ScriptTooLong,
-        ScriptFault::OutOfMemory,
-    ];
-    let want = "21 NoExternal;23 NotUtf8;24 ScriptTooLong;49 OutOfMemory;";
-    assert_eq!(rt; print_values(rt.alloc(), &others)?.as_str(), want);
-    Ok(())
-}
-
-/// The texts of faults that are at a place or in an item.
-const PLACED: &str =
-    "4 UnknownEscape at 7;5 BadCode at 16;7 Syntax at 30;8 TooDeep at 1;9 DeclaredTwice in item 1;10 Undeclared in item 2;11 WrongKind in item 2;12 DefinedTwice in item 3;13 Undefined in item 3;14 WrongMode in item 4;15 Substring in item 4;16 Starter in item 5;17 RepeatedString in item 5;18 EmptyAmong in item 6;19 NestedBackwards in item 6;20 OutOfProfile at 9;";
-
-#[test]
 fn words_and_signs_know_how_they_are_written(rt: HostRuntime) {
     for (text, want) in [
         (Word::SetMark.text(), "setmark"),
@@ -210,83 +171,6 @@ fn words_and_signs_know_how_they_are_written(rt: HostRuntime) {
     ] {
         assert_eq!(rt; text, want);
     }
-}
-
-/// Returns these characters, or the fault.
-fn read_text(alloc: Global, made: Result<Vec<char>, ScriptFault>) -> Result<String, AllocError> {
-    match made {
-        Ok(value) => text_of(alloc, &value),
-        Err(fault) => format!(in alloc; "{fault}"),
-    }
-}
-
-const LITERALS: &[(&str, &str)] = &[
-    ("gro{ss}", "gro\u{df}"),
-    ("{U+00E4}", "\u{e4}"),
-    ("{{}{'}", "{'"),
-    ("{ }", ""),
-    ("{\n}{}", ""),
-    ("{zz}", "4 UnknownEscape at 0"),
-    ("{ ss }", "4 UnknownEscape at 0"),
-    ("{u+e4}", "4 UnknownEscape at 0"),
-    ("{U+D800}", "5 BadCode at 0"),
-    ("\u{e4}{U+0000041}", "5 BadCode at 2"),
-    ("{U+}", "5 BadCode at 0"),
-    ("a'b{", "2 UnclosedString at 0"),
-    ("{zz}\n", "2 UnclosedString at 0"),
-    ("{zz}'", "4 UnknownEscape at 0"),
-    ("'{zz}", "1 BadCharacter at 0"),
-];
-
-/// Asserts what each literal means under these escapes.
-fn are_read(rt: &impl Abort, alloc: Global, escapes: &Escapes) -> Result<(), Fail> {
-    for (spelling, want) in LITERALS {
-        let value = read_literal(alloc, escapes, spelling);
-        let shown = read_text(alloc, value)?;
-        assert!(rt; shown.as_str() == *want, "{shown} in {spelling:?}");
-    }
-    Ok(())
-}
-
-/// Asserts what a lexer gives under these escapes.
-fn is_read(rt: &impl Abort, alloc: Global, escapes: &Escapes) -> Result<(), Fail> {
-    let mut lexer = Lexer::with_escapes(alloc, "'{ss}'", escapes)?;
-    let shown = nexts(alloc, &mut lexer, 2)?;
-    assert!(rt; shown.as_str() == "Literal 0 6 {ss} \u{df};none;");
-    Ok(())
-}
-
-/// Defines a macro, and reads literals.
-fn read_under(rt: &impl Abort, alloc: Global, escapes: &mut Escapes) -> Result<(), Fail> {
-    escapes.set('{', '}');
-    escapes.define("ss", &['\u{df}'])?;
-    are_read(rt, alloc, escapes)?;
-    is_read(rt, alloc, escapes)
-}
-
-#[test]
-fn a_literal_is_read_under_the_escapes_in_force(rt: HostRuntime) -> Result<(), Fail> {
-    let mut escapes = Escapes::new(rt.alloc());
-    read_under(&rt, rt.alloc(), &mut escapes)
-}
-
-/// Whether codes are in base 16, the codes, and their characters.
-const CODES: &[(bool, &str, &str)] = &[
-    (true, "E4 62", "\u{e4}b"),
-    (false, "98", "b"),
-    (false, " ", ""),
-    (false, "9a", "5 BadCode at 0"),
-];
-
-#[test]
-fn codes_are_read_in_their_base(rt: HostRuntime) -> Result<(), Fail> {
-    let alloc = rt.alloc();
-    for (is_hex, codes, want) in CODES {
-        let codes = letters(alloc, codes)?;
-        let value = read_codes(alloc, *is_hex, &codes);
-        assert_eq!(rt; read_text(alloc, value)?.as_str(), *want);
-    }
-    Ok(())
 }
 
 /// A code, and how often it is there. Such a macro has as many characters.
@@ -382,8 +266,8 @@ fn codes_of_a_call_and_of_a_literal_are_the_same(rt: HostRuntime) -> Result<(), 
     for _ in 0..65 {
         text.push_str("E4\t")?;
     }
-    let value = read_codes(alloc, true, &letters(alloc, &text)?);
-    let read = read_text(alloc, value)?;
+    let value = read_codes(alloc, true, &letters(alloc, &text)?)?;
+    let read = text_of(alloc, &value)?;
     let script = format!(in alloc; "stringescapes {{}} stringdef m hex '{text}' '{{m}}'")?;
     let inserted = answer_text(alloc, &script, Asked::Value)?;
     assert_eq!(rt; read.len(), 130);
