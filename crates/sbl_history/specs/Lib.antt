@@ -6,3 +6,6 @@ pub mod Desks
 pub mod Editing
 pub mod Splicing
 pub mod LineEnds
+pub mod ChangeReports
+-- what the functions inside the crate promise each other; no public contract depends on these
+pub mod inside

@@ -2,16 +2,22 @@
 //! mark.
 #![tactic(auto)]
 
+mod change_reports;
 mod desk;
+mod few;
 mod history;
 mod kinds;
 mod line_ends;
 mod listing;
 mod marks;
+mod noted;
 mod refused;
 mod splice;
 mod steps;
+mod text_set;
+mod unlike;
 
+pub use change_reports::{change_figures_text, changes_text, first_changes_text};
 pub use desk::Desk;
 pub use history::HistoryFault;
 pub use line_ends::{has_crlf, push_crlf};

@@ -2,13 +2,13 @@
 ghost use Rattle.std.specs.Prelude.{◌≡◌, IfOk};
 ghost use Rattle.sbl_bench.specs.KeptRuns.{contents_of};
 ghost use Rattle.sbl_history.specs.Desks.{state_of};
-ghost use Rattle.sbl_changes.specs.ChangeReports as reports;
+ghost use Rattle.sbl_history.specs.ChangeReports as reports;
 ghost use Rattle.sbl_work.specs.Commands as spec;
 ghost use Rattle.sbl_work.specs.ReplyViews.{IsWorkAnswer};
 
 use crate::requests::count_in;
 use sbl_bench::Bench;
-use sbl_changes::{change_figures_text, first_changes_text};
+use sbl_history::{change_figures_text, first_changes_text};
 use sbl_history::Desk;
 use sbl_sessions::{BAD_COMMAND, Reply, report};
 use std::alloc::{AllocError, Global};

@@ -2,7 +2,7 @@ use Rattle.std.proofs.Common.{rules, ◌≡◌, ◌∙◌, ℕ, List, Option, So
 use Rattle.std.specs.Option.{option_map_or}
 use Rattle.sbl_bench.specs.KeptRuns.{contents_of}
 use Rattle.sbl_history.specs.Desks.{state_of}
-use Rattle.sbl_changes.specs.ChangeReports.{first_changes_text}
+use Rattle.sbl_history.specs.ChangeReports.{first_changes_text}
 use Rattle.sbl_sessions.specs.Commands.{Bad}
 use Rattle.sbl_work.specs.Commands.{FirstChanges, Session, count_in, first_changes_command}
 use Rattle.sbl_work.proofs.LookupFacts.{bad_told, report_told}

@@ -1,4 +1,0 @@
-pub mod ClassFacts
-pub mod RowSteps
-pub mod RowFacts
-pub mod ChangeReportFacts

@@ -1,3 +1,0 @@
--- What the functions inside the crate promise each other.
-pub mod TextSets
-pub mod Noted
