@@ -8,3 +8,4 @@ pub mod ScriptFiles
 pub mod FileRuns
 pub mod WholeFilter
 pub mod WholeList
+pub mod CommandLine

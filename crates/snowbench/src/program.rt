@@ -14,7 +14,7 @@ ghost use Rattle.snowbench.specs.WholeSession.{IsWholeSession};
 
 use sbl_batch::{check_observed, filter};
 use sbl_bench::{Progress, WordKeys};
-use sbl_command_line::{Verb, Wanted};
+use crate::command_line::{Verb, Wanted};
 use sbl_input::{LoadFault, load_observed, load_rows, read_script};
 use sbl_io::{Lines, ServeFault, Sink, Source, write_all};
 use sbl_script::Script;

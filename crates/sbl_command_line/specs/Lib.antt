@@ -1,2 +1,0 @@
--- what the contracts of public calls rest on
-pub mod CommandLine
