@@ -1,5 +1,5 @@
 //! A desk: what is kept beside a bench at work, so that its edits can be undone and redone, and its rows compared with those at a
-//! mark.
+//! mark. The reports of what changed since then.
 #![tactic(auto)]
 
 mod change_reports;

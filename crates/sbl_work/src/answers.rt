@@ -25,9 +25,8 @@ use crate::text_replies::{file_tokens_reply, hello_reply, places_reply, text_rep
 use crate::whys::{integers_reply, why_reply};
 use crate::word_files::words_reply;
 use sbl_bench::{Bench, EditFault};
-use sbl_history::changes_text;
 use sbl_explain::{KeptTakes, unused_text};
-use sbl_history::Desk;
+use sbl_history::{Desk, changes_text};
 use sbl_io::first_line;
 use sbl_reports::{largest_text, stats_text};
 use sbl_sessions::{Reply, report};

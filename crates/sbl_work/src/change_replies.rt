@@ -8,8 +8,7 @@ ghost use Rattle.sbl_work.specs.ReplyViews.{IsWorkAnswer};
 
 use crate::requests::count_in;
 use sbl_bench::Bench;
-use sbl_history::{change_figures_text, first_changes_text};
-use sbl_history::Desk;
+use sbl_history::{Desk, change_figures_text, first_changes_text};
 use sbl_sessions::{BAD_COMMAND, Reply, report};
 use std::alloc::{AllocError, Global};
 

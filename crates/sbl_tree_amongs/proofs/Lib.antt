@@ -1,5 +1,0 @@
-pub mod Putting
-pub mod Held
-pub mod Walking
-pub mod Words
-pub mod Swapped
