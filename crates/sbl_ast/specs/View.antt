@@ -6,18 +6,15 @@ use Rattle.sbl_ast.specs.declared.tree.Literal.{Literal}
 use Rattle.sbl_ast.specs.declared.tree.Argument.{Argument}
 use Rattle.sbl_ast.specs.declared.tree.Argument.TheVariants as arguments
 use Rattle.sbl_ast.specs.declared.tree.Expression.{Expression}
-use Rattle.sbl_ast.specs.declared.tree.NextProduct.{NextProduct}
 use Rattle.sbl_ast.specs.declared.tree.Product.{Product}
-use Rattle.sbl_ast.specs.declared.tree.NextFactor.{NextFactor}
 use Rattle.sbl_ast.specs.declared.tree.Factor.{Factor}
-use Rattle.sbl_ast.specs.declared.tree.Factor.TheOpen.{NextProduct-F, Expression-F, Factor-F, Product-F, NextFactor-F}
+use Rattle.sbl_ast.specs.declared.tree.Factor.TheOpen.{Expression-F, Factor-F, Product-F}
 use Rattle.sbl_ast.specs.declared.tree.Factor.TheFolds.{fold-Expression}
 use Rattle.sbl_ast.specs.declared.tree.Command.{Command}
 use Rattle.sbl_ast.specs.declared.tree.Among.{Among}
 use Rattle.sbl_ast.specs.declared.tree.Group.{Group}
-use Rattle.sbl_ast.specs.declared.tree.NextCommand.{NextCommand}
 use Rattle.sbl_ast.specs.declared.tree.RowOfCommands.{RowOfCommands as Row}
-use Rattle.sbl_ast.specs.declared.tree.Command.TheOpen.{Among-F, Command-F, Group-F, NextCommand-F, RowOfCommands-F}
+use Rattle.sbl_ast.specs.declared.tree.Command.TheOpen.{Among-F, Command-F, Group-F, RowOfCommands-F}
 use Rattle.sbl_ast.specs.declared.tree.Command.TheFolds.{fold-Among, fold-Command, fold-RowOfCommands}
 use Rattle.sbl_ast.specs.declared.tree.Entry.{Entry}
 use Rattle.sbl_ast.specs.declared.tree.Term.{Term}
@@ -46,10 +43,6 @@ NextProductView = Additive × trees.Product
 abbrev pub NextFactorView : Type 0
 NextFactorView = Multiplicative × trees.Factor
 
--- one level, with the view of each child
-abbrev pub next_product_step : NextProduct-F trees.Factor trees.Expression NextFactorView NextProductView trees.Product → NextProductView
-next_product_step a = (a.operator, a.product)
-
 abbrev pub expression_step : Expression-F trees.Factor trees.Expression NextFactorView NextProductView trees.Product → trees.Expression
 expression_step e = trees.expression e.first (foldr (λ s. trees.sum s.0 s.1) trees.no_sums e.others.items)
 
@@ -64,13 +57,10 @@ factor_step (Factor-F.LenOf a) = trees.length_of (view_argument a)
 abbrev pub product_step : Product-F trees.Factor trees.Expression NextFactorView NextProductView trees.Product → trees.Product
 product_step p = trees.product p.first (foldr (λ s. trees.scale s.0 s.1) trees.no_scales p.others.items)
 
-abbrev pub next_factor_step : NextFactor-F trees.Factor trees.Expression NextFactorView NextProductView trees.Product → NextFactorView
-next_factor_step s = (s.operator, s.factor)
-
 abbrev pub view_expression : Expression → trees.Expression
 view_expression =
     fold-Expression trees.Factor trees.Expression NextFactorView NextProductView trees.Product
-    factor_step expression_step next_factor_step next_product_step product_step
+    factor_step expression_step (λ s. (s.operator, s.factor)) (λ a. (a.operator, a.product)) product_step
 
 -- ---- commands
 
@@ -120,20 +110,23 @@ command_step (Command-F.Among a) = trees.among_ a.0 a.1
 abbrev pub group_step : Group-F trees.Command AmongView GroupView NextCommandView RowView → GroupView
 group_step g = record { first = view_entry g.first; others = map view_entry g.others.items; rows = rows_of g.rows.items }
 
-abbrev pub next_command_step : NextCommand-F trees.Command AmongView GroupView NextCommandView RowView → NextCommandView
-next_command_step o = (o.joiner, o.command)
-
 abbrev pub row_step : RowOfCommands-F trees.Command AmongView GroupView NextCommandView RowView → RowView
 row_step r = (r.first, foldr (λ o. trees.joined o.0 o.1) trees.no_others r.others.items)
 
 abbrev pub view_among : Among → AmongView
-view_among = fold-Among trees.Command AmongView GroupView NextCommandView RowView command_step among_step group_step next_command_step row_step
+view_among =
+    fold-Among trees.Command AmongView GroupView NextCommandView RowView
+    command_step among_step group_step (λ o. (o.joiner, o.command)) row_step
 
 abbrev pub view_command : Command → trees.Command
-view_command = fold-Command trees.Command AmongView GroupView NextCommandView RowView command_step among_step group_step next_command_step row_step
+view_command =
+    fold-Command trees.Command AmongView GroupView NextCommandView RowView
+    command_step among_step group_step (λ o. (o.joiner, o.command)) row_step
 
 abbrev pub view_row : Row → RowView
-view_row = fold-RowOfCommands trees.Command AmongView GroupView NextCommandView RowView command_step among_step group_step next_command_step row_step
+view_row =
+    fold-RowOfCommands trees.Command AmongView GroupView NextCommandView RowView
+    command_step among_step group_step (λ o. (o.joiner, o.command)) row_step
 
 -- ---- items
 

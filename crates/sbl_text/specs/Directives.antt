@@ -2,14 +2,14 @@
 use denote.Enum.Bare.{sameb}
 use Rattle.std.specs.Option.{option_map_or}
 use Rattle.std.specs.Str.{chars}
-use Rattle.std.specs.Prelude.{ℕ, true, false, if◌then◌else◌, List, Option, Some, None, option_and_then}
+use Rattle.std.specs.Prelude.{ℕ, if◌then◌else◌, List, Option, Some, None, option_and_then}
 use Rattle.sbl_text.specs.declared.pieces.Expectation.{Expectation}
 use Rattle.sbl_text.specs.declared.pieces.Expectation.TheVariants as wanted
 use Rattle.sbl_text.specs.contracts.directives.Coding as codings
 use Rattle.sbl_text.specs.declared.directives.Coding.{Coding}
 use Rattle.sbl_text.specs.declared.directives.Coding.TheVariants as coding
 use Rattle.sbl_token.specs.declared.words.Word.TheVariants as reserved
-use Rattle.sbl_text.specs.Codes.{codes_of}
+use Rattle.sbl_text.specs.Codes.{all_codes, numbers_in}
 use Rattle.sbl_text.specs.Escapes.{InForce, nothing_set, with_inserts, with_macro}
 use Rattle.sbl_token.specs.Lexemes.{Lexeme, word, literal, inserts, macro_name}
 use Rattle.sbl_text.specs.Pieces.{Setting}
@@ -34,12 +34,12 @@ start_under e = record { escapes = e; wanted = wanted.Token; defining = None }
 abbrev pub start : Directives
 start = start_under nothing_set
 
--- The value that a literal gives to a macro: its characters, or after `hex` or `decimal` those with its codes, if it has
--- nothing but codes. Its length has no bound.
+-- The value that a literal gives to a macro: its characters, or after `hex` or `decimal` those with its codes, of 1 to 6 or 1 to 7
+-- digits each, if it has nothing but codes. Its length has no bound.
 abbrev pub value_for_macro : Coding → List ℕ → Option (List ℕ)
 value_for_macro coding.Plain v = Some v
-value_for_macro coding.Hex v = codes_of true v
-value_for_macro coding.Decimal v = codes_of false v
+value_for_macro coding.Hex v = all_codes 16 6 (numbers_in v)
+value_for_macro coding.Decimal v = all_codes 10 7 (numbers_in v)
 
 abbrev pub value_for : Option Defining → List ℕ → Option (List ℕ)
 value_for d v = option_map_or (λ m. value_for_macro m.coding v) d (Some v)

@@ -8,6 +8,8 @@ use Rattle.sbl_ast.specs.declared.tree.NextProduct.{NextProduct}
 use Rattle.sbl_ast.specs.declared.tree.Product.{Product}
 use Rattle.sbl_ast.specs.declared.tree.NextFactor.{NextFactor}
 use Rattle.sbl_ast.specs.declared.tree.Factor.{Factor}
+use Rattle.sbl_ast.specs.declared.tree.Factor.TheOpen.{NextProduct-F, NextFactor-F}
+use Rattle.sbl_ast.specs.declared.tree.Command.TheOpen.{NextCommand-F}
 use Rattle.sbl_ast.specs.declared.tree.Factor.TheFolds.{fold-NextProduct, fold-Factor, fold-Product, fold-NextFactor}
 use Rattle.sbl_ast.specs.declared.tree.Command.{Command}
 use Rattle.sbl_ast.specs.declared.tree.Group.{Group}
@@ -17,8 +19,18 @@ use Rattle.sbl_ast.specs.declared.tree.Command.TheFolds.{fold-Group, fold-NextCo
 use Rattle.sbl_ast.specs.declared.tree.Entry.{Entry}
 use Rattle.sbl_ast.specs.Tree as trees
 use Rattle.sbl_ast.specs.View.{AmongView, GroupView, NextCommandView, NextFactorView, NextProductView, RowView, among_step, command_step}
-use Rattle.sbl_ast.specs.View.{expression_step, factor_step, group_step, next_command_step, next_factor_step, next_product_step}
+use Rattle.sbl_ast.specs.View.{expression_step, factor_step, group_step}
 use Rattle.sbl_ast.specs.View.{product_step, row_step, rows_of, view_row}
+
+-- one level, with the view of each child
+abbrev pub next_product_step : NextProduct-F trees.Factor trees.Expression NextFactorView NextProductView trees.Product → NextProductView
+next_product_step a = (a.operator, a.product)
+
+abbrev pub next_factor_step : NextFactor-F trees.Factor trees.Expression NextFactorView NextProductView trees.Product → NextFactorView
+next_factor_step s = (s.operator, s.factor)
+
+abbrev pub next_command_step : NextCommand-F trees.Command AmongView GroupView NextCommandView RowView → NextCommandView
+next_command_step o = (o.joiner, o.command)
 
 abbrev pub view_next_product : NextProduct → NextProductView
 view_next_product =
