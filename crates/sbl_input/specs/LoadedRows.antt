@@ -5,8 +5,7 @@ use Rattle.std.specs.declared.vec.Vec.{Vec}
 use Rattle.std.specs.declared.alloc.Global.{Global}
 use Rattle.sbl_ast.specs.Source.{Source}
 use Rattle.sbl_bench.specs.Contents.{opening_contents, opening_fault}
-use Rattle.sbl_bench.specs.KeptRuns.{contents_of}
-use Rattle.sbl_input.specs.Loading.{IsInput, IsLoaded}
+use Rattle.sbl_input.specs.Loading.{IsInput, IsLoadFault}
 use Rattle.sbl_reports.specs.Listings.{stems_text}
 use Rattle.sbl_input.specs.declared.faults.LoadFault.{LoadFault}
 
@@ -15,4 +14,4 @@ abbrev pub AreRowsOf : Option (List ℕ) → Option (List ℕ) → List ℕ → 
 AreRowsOf old new external (Ok text) =
     (s : Source) × (words : List (List ℕ)) × IsInput old new external s words
     × (opening_fault [] (map chars words) ≡ None) × (text.items ≡ stems_text (opening_contents s (map chars words)))
-AreRowsOf old new external (Err f) = IsLoaded old new external (λ b. contents_of b) (Err f)
+AreRowsOf old new external (Err f) = IsLoadFault old new external f

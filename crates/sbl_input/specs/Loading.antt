@@ -70,25 +70,29 @@ IsInput old new external s words =
 abbrev pub AfterSource : Option (List ℕ) → List ℕ → (Option (List ℕ) → Type 0) → Type 0
 AfterSource old external P = (s : Source) × (between : Option (List ℕ)) × TookSource old between external s × P between
 
--- The result of loading: the bench of the script and the words, or why there is none, and what was taken from the input. The
--- script block is read to its end before it is checked, the script is checked before the words are read, and all words are read
--- before they are checked. A fault of the words comes after a script block that is read as a script: lines of words were taken,
--- and one more that is not UTF-8; or an allocation failed after some lines.
+-- Why there is no bench, and what was taken from the input. The script block is read to its end before it is checked, the script is
+-- checked before the words are read, and all words are read before they are checked. A fault of the words comes after a script
+-- block that is read as a script: lines of words were taken, and one more that is not UTF-8; or an allocation failed after some
+-- lines.
+abbrev pub IsLoadFault : Option (List ℕ) → Option (List ℕ) → List ℕ → LoadFault → Type 0
+IsLoadFault old new external (Script f) = TookFault old new external f
+IsLoadFault old new external (Open edit.OutOfMemory) = (s : Source) × (words : List (List ℕ)) × IsInput old new external s words
+IsLoadFault old new external (Open f) =
+    (s : Source) × (words : List (List ℕ)) × IsInput old new external s words × (opening_fault [] (map chars words) ≡ Some f)
+IsLoadFault old new external (Input fault.Cut) = Breaks BlockLines old new fault.Cut
+IsLoadFault old new external (Input fault.NotText) =
+    AfterSource old external (λ between. (done : List (List ℕ)) × (first : List ℕ) × WordLines done × (first ≢ point) × (length first ≤ max_line)
+    × (is_utf8 first ≡ false) × Took between new (done ++ first ∷ []))
+IsLoadFault old new external (Input fault.OutOfMemory) =
+    TookFitting old new ⊎ AfterSource old external (λ between. (lines : List (List ℕ)) × BlockLines lines × Took between new lines)
+IsLoadFault old new external (Input f) = Breaks BlockLines old new f ⊎ AfterSource old external (λ between. Breaks WordLines between new f)
+
+-- The result of loading: the bench of the script and the words, or why there is none.
 abbrev pub IsLoaded : {B : Type 0} → Option (List ℕ) → Option (List ℕ) → List ℕ → (B → Contents) → Result B LoadFault → Type 0
 IsLoaded old new external state (Ok bench) =
     (s : Source) × (words : List (List ℕ)) × IsInput old new external s words
     × (opening_fault [] (map chars words) ≡ None) × (state bench ≡ opening_contents s (map chars words))
-IsLoaded old new external state (Err (Script f)) = TookFault old new external f
-IsLoaded old new external state (Err (Open edit.OutOfMemory)) = (s : Source) × (words : List (List ℕ)) × IsInput old new external s words
-IsLoaded old new external state (Err (Open f)) =
-    (s : Source) × (words : List (List ℕ)) × IsInput old new external s words × (opening_fault [] (map chars words) ≡ Some f)
-IsLoaded old new external state (Err (Input fault.Cut)) = Breaks BlockLines old new fault.Cut
-IsLoaded old new external state (Err (Input fault.NotText)) =
-    AfterSource old external (λ between. (done : List (List ℕ)) × (first : List ℕ) × WordLines done × (first ≢ point) × (length first ≤ max_line)
-    × (is_utf8 first ≡ false) × Took between new (done ++ first ∷ []))
-IsLoaded old new external state (Err (Input fault.OutOfMemory)) =
-    TookFitting old new ⊎ AfterSource old external (λ between. (lines : List (List ℕ)) × BlockLines lines × Took between new lines)
-IsLoaded old new external state (Err (Input f)) = Breaks BlockLines old new f ⊎ AfterSource old external (λ between. Breaks WordLines between new f)
+IsLoaded old new external state (Err f) = IsLoadFault old new external f
 
 -- a fault of reading is caused by the reader or a bound, or the lines returned it before
 abbrev pub HasReason : {R : Type 0} → (R → Tally) → Lines R → Lines R → LoadFault → Type 0

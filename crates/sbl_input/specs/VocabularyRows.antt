@@ -3,13 +3,12 @@ use Rattle.std.specs.Prelude.{◌≡◌, ℕ, List, [], Option, None, Result, Ok
 use Rattle.std.specs.Str.{chars}
 use Rattle.sbl_ast.specs.Source.{Source}
 use Rattle.sbl_bench.specs.Contents.{IsFaultOrMemory, opening_contents, opening_fault}
-use Rattle.sbl_bench.specs.KeptRuns.{contents_of}
 use Rattle.sbl_rows.specs.Rows.{rows_of}
 use Rattle.sbl_rows.specs.Setting.{under}
 use Rattle.sbl_bench.specs.declared.fault.EditFault.{EditFault}
 use Rattle.sbl_io.specs.Records.{records_text}
 use Rattle.sbl_semantics.specs.Limit.{default_limit}
-use Rattle.sbl_input.specs.Loading.{IsInput, IsLoaded}
+use Rattle.sbl_input.specs.Loading.{IsInput, IsLoadFault}
 use Rattle.sbl_reports.specs.RowRecords.{row_fields}
 use Rattle.sbl_reports.specs.Listings.{stems_text}
 use Rattle.sbl_io.specs.RecordsWritten.{HasWritten}
@@ -23,7 +22,7 @@ use Rattle.sbl_input.specs.declared.vocabulary_rows.VocabularyRows.{VocabularyRo
 abbrev pub ReadsInput : Option (List ℕ) → Option (List ℕ) → List ℕ → Result ParsedInput LoadFault → Type 0
 ReadsInput old new external (Ok input) =
     (lines : List (List ℕ)) × IsInput old new external (source_of input.script) lines × HoldsWords input.words (map chars lines)
-ReadsInput old new external (Err f) = IsLoaded old new external (λ b. contents_of b) (Err f)
+ReadsInput old new external (Err f) = IsLoadFault old new external f
 
 -- ---- while the rows are made
 

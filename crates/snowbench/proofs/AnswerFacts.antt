@@ -4,7 +4,6 @@ use Rattle.std.proofs.KnownBytes.{Appends-nil, Keeps-refl}
 use Rattle.std.specs.declared.vec.Vec.{Vec}
 use Rattle.std.specs.declared.alloc.Global.{Global}
 use Rattle.sbl_bench.specs.Contents.{Contents}
-use Rattle.sbl_bench.specs.declared.fault.EditFault.TheVariants as edit
 use Rattle.sbl_batch.specs.Differences.{IsChecked}
 use Rattle.sbl_ast.specs.Source.{Source}
 use Rattle.sbl_input.specs.Loading.{IsLoaded, ReadsScript, TookSource}
@@ -25,34 +24,9 @@ use Rattle.sbl_io.specs.Devices.{HasStopped, Tally}
 use Rattle.std.specs.Prelude.{◌==◌, IfErr, OnOk, if◌then◌else◌, take}
 use Rattle.std.specs.Io.KnownBytes.{Appends}
 
--- a fault of loading says nothing of a bench
-no_bench : {B : Type 0} (a b : Option (List ℕ)) (external : List ℕ) (state : B → Contents) (f : LoadFault) → IsLoaded a b external state (Err f)
-    → IsLoaded a b external (λ (s : Contents). s) (Err f)
-no_bench a b external state (Script f) is = is
-no_bench a b external state (Open edit.Present) is = is
-no_bench a b external state (Open edit.Absent) is = is
-no_bench a b external state (Open edit.EmptyWord) is = is
-no_bench a b external state (Open edit.WordTooLong) is = is
-no_bench a b external state (Open edit.Full) is = is
-no_bench a b external state (Open edit.NoRoutine) is = is
-no_bench a b external state (Open edit.NoAmong) is = is
-no_bench a b external state (Open edit.AmongCount) is = is
-no_bench a b external state (Open (edit.Script f)) is = is
-no_bench a b external state (Open edit.OutOfMemory) is = is
-no_bench a b external state (Open edit.MeterFull) is = is
-no_bench a b external state (Open edit.BadLimit) is = is
-no_bench a b external state (Open edit.NoGrouping) is = is
-no_bench a b external state (Input fault.Read) is = is
-no_bench a b external state (Input fault.Write) is = is
-no_bench a b external state (Input fault.LineTooLong) is = is
-no_bench a b external state (Input fault.Cut) is = is
-no_bench a b external state (Input fault.LengthsDiffer) is = is
-no_bench a b external state (Input fault.NotText) is = is
-no_bench a b external state (Input fault.OutOfMemory) is = is
-
 pub session_refused : {B : Type 0} (a b : Option (List ℕ)) (external : List ℕ) (h : Option (List ℕ)) (state : B → Contents) (f : LoadFault)
     → IsLoaded a b external state (Err f) → IsWholeSession a b external h h (Err f)
-session_refused a b external h state f is = inl (f, refl, no_bench a b external state f is, Appends-nil h)
+session_refused a b external h state f is = inl (f, refl, is, Appends-nil h)
 
 pub session_served : {B : Type 0} (a b c : Option (List ℕ)) (external : List ℕ) (h i : Option (List ℕ)) (state : B → Contents) (bench : B) (t : Contents)
     (served : Result (Unit {0}) ServeFault) → IsLoaded a b external state (Ok bench) → IsSession (record { input = b; held = h; bench = state bench }) (record { input = c; held = i; bench = t }) served

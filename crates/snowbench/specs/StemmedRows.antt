@@ -2,10 +2,9 @@
 use Rattle.std.specs.Prelude.{◌≡◌, ◌⊎◌, ℕ, List, [], Option, None, Result, Ok, Err, map, take}
 use Rattle.std.specs.Str.{chars}
 use Rattle.std.specs.Io.KnownBytes.{Appends}
-use Rattle.sbl_bench.specs.KeptRuns.{contents_of}
 use Rattle.sbl_bench.specs.Contents.{opening_contents, opening_fault}
 use Rattle.sbl_ast.specs.Source.{Source}
-use Rattle.sbl_input.specs.Loading.{IsInput, IsLoaded}
+use Rattle.sbl_input.specs.Loading.{IsInput, IsLoadFault}
 use Rattle.sbl_reports.specs.Listings.{stems_text}
 use Rattle.sbl_input.specs.declared.faults.LoadFault.{LoadFault}
 use Rattle.sbl_input.specs.declared.faults.LoadFault.TheVariants.{Input}
@@ -22,7 +21,7 @@ IsStemmed old new external held new_held (Err (Input fault.Write)) =
     (s : Source) × (words : List (List ℕ)) × IsInput old new external s words × (opening_fault [] (map chars words) ≡ None)
     × (n : ℕ) × Appends held new_held (take n (stems_text (opening_contents s (map chars words))))
 IsStemmed old new external held new_held (Err (Input fault.OutOfMemory)) =
-    (IsLoaded old new external (λ b. contents_of b) (Err (Input fault.OutOfMemory))
+    (IsLoadFault old new external (Input fault.OutOfMemory)
     ⊎ ((s : Source) × (words : List (List ℕ)) × IsInput old new external s words))
     × Appends held new_held []
-IsStemmed old new external held new_held (Err f) = IsLoaded old new external (λ b. contents_of b) (Err f) × Appends held new_held []
+IsStemmed old new external held new_held (Err f) = IsLoadFault old new external f × Appends held new_held []
