@@ -11,6 +11,7 @@ ghost use Rattle.sbl_batch.specs.Comparing.{fields_in};
 
 use crate::comparing::ScriptComparison;
 use csv::ByteRecord;
+use sbl_io::push_two;
 use sbl_machine::Item;
 use sbl_reports::{Record, records_text};
 use sbl_rows::ChangeRow;
@@ -41,16 +42,6 @@ impl Record for ComparisonRow<'_, '_> {
             ComparisonRow::Words(words, changed) => fill_words(alloc, csv_record, *words, *changed),
         }
     }
-}
-
-/// Appends two fields to a record. Returns `AllocError` if an allocation fails.
-fn push_two(csv_record: &mut ByteRecord, first: &[u8], second: &[u8]) -> Result<(), AllocError>
-    requires { partial_of csv_record.old ≡ [] }
-    ensures fields { OnOk result (fields_of csv_record.new ≡ fields_of csv_record.old ++ first.now ∷ second.now ∷ []) }
-    ensures partial { OnOk result (partial_of csv_record.new ≡ []) }
-{
-    csv_record.push_field(first)?;
-    csv_record.push_field(second)
 }
 
 /// Appends the fields of an item to a record. Returns `AllocError` if an allocation fails.

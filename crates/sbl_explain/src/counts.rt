@@ -8,7 +8,6 @@ ghost use Rattle.sbl_explain.specs.TakeNumbers.{KeepsNumbers};
 ghost use Rattle.sbl_explain.specs.UsableViews.{AreDefined, Defines, next_row, number_for, number_row, number_rows, row_for, rows_text, view_usable, view_usables};
 ghost use Rattle.sbl_explain.specs.Kept.{KeepsWords};
 
-use crate::event_rows::push_number;
 use crate::kept_takes::KeptTakes;
 use crate::kept_words::KeptWord;
 use crate::take_counts::{TakeCounts, counts_by_words, number_taking};
@@ -16,7 +15,7 @@ use crate::unused::{kind, push_place};
 use crate::usables::{Usable, own_item, usables_of};
 use csv::ByteRecord;
 use sbl_bench::Bench;
-use sbl_io::push_text;
+use sbl_io::{push_number, push_text};
 use sbl_reports::{Record, records_text};
 use std::alloc::{AllocError, Global};
 

@@ -14,24 +14,10 @@ ghost use Rattle.sbl_explain.specs.WhyRows as spec;
 use crate::moment::Moment;
 use csv::ByteRecord;
 use sbl_bench::Bench;
-use sbl_io::{Report, push_text};
+use sbl_io::{Report, push_number, push_text};
 use sbl_machine::Outcome;
 use sbl_run_state::Event;
 use std::alloc::{AllocError, Global};
-
-/// Appends a number to a record, as one field. Returns `AllocError` if an allocation fails.
-pub(crate) fn push_number(
-    alloc: Global,
-    csv_record: &mut ByteRecord,
-    number: usize,
-) -> Result<(), AllocError>
-    requires { partial_of csv_record.old ≡ [] }
-    ensures fields { OnOk result (fields_of csv_record.new ≡ fields_of csv_record.old ++ decimal number ∷ []) }
-    ensures partial { OnOk result (partial_of csv_record.new ≡ []) }
-{
-    let digits = format!(in alloc; "{number}")?;
-    csv_record.push_field(digits.as_bytes())
-}
 
 /// Appends a signal. Returns `AllocError` if an allocation fails.
 fn push_signal(csv_record: &mut ByteRecord, signal: bool) -> Result<(), AllocError>

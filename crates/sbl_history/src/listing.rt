@@ -8,18 +8,8 @@ ghost use Rattle.sbl_io.specs.Records.{record_line, records_text};
 use crate::kinds::HeldKind;
 use crate::steps::{HeldEdit, History};
 use csv::ByteRecord;
-use sbl_io::push_line;
+use sbl_io::{push_line, push_two};
 use std::alloc::{AllocError, Global};
-
-/// Appends two fields to a record. Returns `AllocError` if an allocation fails.
-fn push_two(csv_record: &mut ByteRecord, first: &[u8], second: &[u8]) -> Result<(), AllocError>
-    requires { partial_of csv_record.old ≡ [] }
-    ensures fields { OnOk result (fields_of csv_record.new ≡ fields_of csv_record.old ++ first.now ∷ second.now ∷ []) }
-    ensures partial { OnOk result (partial_of csv_record.new ≡ []) }
-{
-    csv_record.push_field(first)?;
-    csv_record.push_field(second)
-}
 
 /// Appends a number to a record, as one field. Returns `AllocError` if an allocation fails.
 fn push_number(alloc: Global, csv_record: &mut ByteRecord, number: u64) -> Result<(), AllocError>

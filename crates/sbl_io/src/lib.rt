@@ -14,7 +14,7 @@ mod writing;
 pub use devices::{Device, Sink, Source, Stop};
 pub use faults::{LineFault, ServeFault};
 pub use lines::{Lines, MAX_LINE};
-pub use records::{push_line, push_text, record_line, text_of};
+pub use records::{push_line, push_number, push_text, push_two, record_line, text_of};
 pub use report::{Report, ReportLength, ReportText};
 pub use text_buffer::TextBuffer;
 pub use text_lines::first_line;

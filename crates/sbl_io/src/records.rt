@@ -1,5 +1,5 @@
 //! The text of a record, written with `csv`.
-ghost use Rattle.std.specs.Prelude.{◌≡◌, ◌++◌, [], ◌∷◌, IfOk, OnOk, string_bytes};
+ghost use Rattle.std.specs.Prelude.{◌≡◌, ◌++◌, [], ◌∷◌, IfOk, OnOk, decimal, string_bytes};
 ghost use Rattle.std.specs.Str.{encode_utf8_all};
 ghost use Rattle.csv.specs.Records.{fields_of, partial_of};
 ghost use Rattle.sbl_io.specs.Records as spec;
@@ -49,6 +49,30 @@ pub fn push_text(
         end += 1;
     }
     csv_record.push_field(&room[..end])
+}
+
+/// Appends two fields to a record. Returns `AllocError` if an allocation fails.
+pub fn push_two(csv_record: &mut ByteRecord, first: &[u8], second: &[u8]) -> Result<(), AllocError>
+    requires { partial_of csv_record.old ≡ [] }
+    ensures fields { OnOk result (fields_of csv_record.new ≡ fields_of csv_record.old ++ first.now ∷ second.now ∷ []) }
+    ensures partial { OnOk result (partial_of csv_record.new ≡ []) }
+{
+    csv_record.push_field(first)?;
+    csv_record.push_field(second)
+}
+
+/// Appends a number to a record, as one field. Returns `AllocError` if an allocation fails.
+pub fn push_number(
+    alloc: Global,
+    csv_record: &mut ByteRecord,
+    number: usize,
+) -> Result<(), AllocError>
+    requires { partial_of csv_record.old ≡ [] }
+    ensures fields { OnOk result (fields_of csv_record.new ≡ fields_of csv_record.old ++ decimal number ∷ []) }
+    ensures partial { OnOk result (partial_of csv_record.new ≡ []) }
+{
+    let digits = format!(in alloc; "{number}")?;
+    csv_record.push_field(digits.as_bytes())
 }
 
 /// Returns the text of one record: its fields, quoted if `csv` quotes them, and a line feed. Returns `AllocError` if an

@@ -6,6 +6,7 @@ ghost use Rattle.sbl_reports.specs.ItemRecords.{item_fields};
 
 use crate::records::Record;
 use csv::ByteRecord;
+use sbl_io::push_two;
 use sbl_machine::ItemRef;
 use std::alloc::AllocError;
 
@@ -23,14 +24,4 @@ impl Record for ItemRef<'_> {
             ItemRef::Grouping(name) => push_two(csv_record, b"grouping", name.as_bytes()),
         }
     }
-}
-
-/// Appends two fields to a record. Returns `AllocError` if an allocation fails.
-fn push_two(csv_record: &mut ByteRecord, first: &[u8], second: &[u8]) -> Result<(), AllocError>
-    requires { partial_of csv_record.old ≡ [] }
-    ensures fields { OnOk result (fields_of csv_record.new ≡ fields_of csv_record.old ++ first.now ∷ second.now ∷ []) }
-    ensures partial { OnOk result (partial_of csv_record.new ≡ []) }
-{
-    csv_record.push_field(first)?;
-    csv_record.push_field(second)
 }

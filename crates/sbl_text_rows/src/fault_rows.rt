@@ -7,10 +7,10 @@ ghost use Rattle.sbl_text_rows.specs.FaultRows as spec;
 ghost use Rattle.sbl_text_rows.specs.FaultViews.{view_fault};
 ghost use Rattle.sbl_text_rows.specs.Views.{Measures};
 
-use crate::fields::{push_number, push_numbers};
+use crate::fields::push_numbers;
 use crate::rulers::Ruler;
 use csv::ByteRecord;
-use sbl_io::push_line;
+use sbl_io::{push_line, push_number};
 use std::alloc::{AllocError, Global};
 
 /// What the row of a fault has.

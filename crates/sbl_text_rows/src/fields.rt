@@ -4,21 +4,8 @@ ghost use Rattle.std.specs.Prelude.{◌≡◌, ◌++◌, ◌∷◌, [], OnOk, de
 ghost use Rattle.csv.specs.Records.{fields_of, partial_of};
 
 use csv::ByteRecord;
+use sbl_io::push_number;
 use std::alloc::{AllocError, Global};
-
-/// Appends a number to a record, as one field. Returns `AllocError` if an allocation fails.
-pub(crate) fn push_number(
-    alloc: Global,
-    csv_record: &mut ByteRecord,
-    number: usize,
-) -> Result<(), AllocError>
-    requires { partial_of csv_record.old ≡ [] }
-    ensures fields { OnOk result (fields_of csv_record.new ≡ fields_of csv_record.old ++ decimal number ∷ []) }
-    ensures partial { OnOk result (partial_of csv_record.new ≡ []) }
-{
-    let digits = format!(in alloc; "{number}")?;
-    csv_record.push_field(digits.as_bytes())
-}
 
 /// Appends two numbers to a record, each as one field. Returns `AllocError` if an allocation fails.
 pub(crate) fn push_numbers(

@@ -12,11 +12,11 @@ ghost use Rattle.sbl_text_rows.specs.Rows.{line_if};
 ghost use Rattle.sbl_text_rows.specs.Views.{Measures, TakesLine, context_of};
 
 use crate::extents::{closed_end, is_as, item_end};
-use crate::fields::{push_number, push_numbers};
+use crate::fields::push_numbers;
 use crate::rulers::Ruler;
 use crate::walks::Walk;
 use csv::ByteRecord;
-use sbl_io::{push_line, text_of};
+use sbl_io::{push_line, push_number, text_of};
 use sbl_text::laws::first_fault_is_one;
 use sbl_text::{Kind, ScriptFault, Token, Value, Word, tokens};
 use std::alloc::{AllocError, Global};
