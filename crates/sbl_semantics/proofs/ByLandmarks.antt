@@ -33,7 +33,7 @@ record At (ls own : List Landmark) (i k : ℕ) (w : Bool) (n : Option Among) : T
   next : n ≡ next_among (k + amongs_in own) rest
 
 module _ {ls : List Landmark} {i k : ℕ} {w : Bool} {n : Option Among} where
-  first_part : (a b : List Landmark) (x : Option Among) (h : At ls (a ++ b) i k w n) → x ≡ next_among (k + amongs_in a) (b ++ h.rest) → At ls a i k w x
+  abbrev first_part : (a b : List Landmark) (x : Option Among) (h : At ls (a ++ b) i k w n) → x ≡ next_among (k + amongs_in a) (b ++ h.rest) → At ls a i k w x
   first_part a b x h e = record {
     before = h.before;
     rest = b ++ h.rest;
@@ -44,7 +44,7 @@ module _ {ls : List Landmark} {i k : ℕ} {w : Bool} {n : Option Among} where
     next = e;
   }
 
-  second_part : (a b : List Landmark) (j : ℕ) (v : Bool) → At ls (a ++ b) i k w n → j ≡ k + amongs_in a → v ≡ waits_through a w → At ls b (i + length a) j v n
+  abbrev second_part : (a b : List Landmark) (j : ℕ) (v : Bool) → At ls (a ++ b) i k w n → j ≡ k + amongs_in a → v ≡ waits_through a w → At ls b (i + length a) j v n
   second_part a b j v h e f =
       let p = h.place in
       let q = h.number in
@@ -254,7 +254,9 @@ calls_same ns class bodies zero = refl
 calls_same ns class bodies (suc l) =
     let by_body : new.calls ns class bodies (suc l) ≡ (λ (n : List ℕ) (m : Mode) (s : State). old.body_does ns class (new.calls ns class bodies l) n (bodies n) m s) =
     fun_ext (λ n. fun_ext (λ m. fun_ext (λ s. body_acts ns class (new.calls ns class bodies l) n (bodies n) m s))) in
-    by_body ∙ ap (λ (call : List ℕ → Doing) (n : List ℕ) (m : Mode) (s : State). old.body_does ns class call n (bodies n) m s) (calls_same ns class bodies l)
+    let by_call : (λ (n : List ℕ) (m : Mode) (s : State). old.body_does ns class (new.calls ns class bodies l) n (bodies n) m s) ≡ old.calls ns class bodies (suc l) =
+    (λ x n m s. old.body_does ns class (calls_same ns class bodies l x) n (bodies n) m s) in
+    by_body ∙ by_call
 
 pub ending_is : (script : Source) (word : List ℕ) (limit : ℕ) → new.ending script word limit ≡ old.ending script word limit
 unfolding new.ending old.ending

@@ -17,7 +17,7 @@ amongs_append (among m gs ∷ xs) ys = let h = amongs_append xs ys in omega (ari
 amongs_append (substring ∷ xs) ys = amongs_append xs ys
 amongs_append (region_end ∷ xs) ys = amongs_append xs ys
 
-none_more : (k : ℕ) → k ≡ k + 0
+pub none_more : (k : ℕ) → k ≡ k + 0
 none_more k = omega arith
 
 mutual
@@ -135,7 +135,7 @@ mutual
       sym (through_append (landmarks_in_starter m s) (landmarks_in_groups m gs) false
       ∙ ap (waits_through (landmarks_in_groups m gs)) (none_after_starter s m) ∙ none_after_groups gs m)
 
-  waits_rows_is : (rs : Rows) (m : Mode) (w : Bool) → waits_rows rs w ≡ waits_through (landmarks_in_rows m rs) w
+  pub waits_rows_is : (rs : Rows) (m : Mode) (w : Bool) → waits_rows rs w ≡ waits_through (landmarks_in_rows m rs) w
   waits_rows_is no_rows m w = refl
   waits_rows_is (row c os rs) m w =
       waits_rows_is rs m (waits_others os (waits c w))

@@ -34,7 +34,7 @@ module _ (ns : DeclaredNames) (class : List ℕ → ℕ → Bool) (call : List �
     act r k w n (bracket rs) m s = rows_do r k w n rs m s
     act r k w n (simple_ x) m s = simple_does (λ m s. option_map_or (λ a. search call a m s) n (Signals false s)) x m s
     act r k w n (literal_ q) m s = match q.value m s
-    act r k w n (name_ x) m s = name_does x m s
+    act r k w n (name_ x) m s = name_does ns class call x m s
     act r k w n (non_ b x) m s = tests ns class false x m s
     act r k w n (prefixed x c) m s = prefixed_does x (pay_first (act (mode_under x r) k w n c)) m s
     act r k w n (counted x e c) m s = counted_does x (worth ns e m s) (pay_first (act r k w n c)) m s
