@@ -4,7 +4,7 @@ use crate::characters::{cut, push_cut};
 use crate::declarations::{declaration_of, declared_in};
 use crate::sentences::{Faulty, Place, tokens_before};
 use sbl_script::Part;
-use sbl_text::{Kind, Sign, Token, Word, tokens};
+use sbl_text::{Kind, Sign, Token, Word};
 use std::alloc::{AllocError, Global};
 
 /// In which mode a script defines a name.
@@ -51,12 +51,9 @@ fn definition_in(tokens: &[Token<'_>], name: &str) -> Option<Definition> {
 
 /// Returns the definition of this name in a script, if there is one and the tokens of the script can be read.
 fn definition_of(alloc: Global, script: &[u8], name: &str) -> Option<Definition> {
-    let Ok(text) = str::from_utf8(script) else {
-        return None;
-    };
-    match tokens(alloc, text) {
-        Ok(tokens) => definition_in(&tokens, name),
-        Err(_) => None,
+    match tokens_before(alloc, script, script.len()) {
+        Some(tokens) => definition_in(&tokens, name),
+        None => None,
     }
 }
 

@@ -8,7 +8,7 @@ use crate::grammar::is_operator;
 use crate::near::{push_near, push_near_reserved};
 use crate::sentences::{Faulty, Place, tokens_before};
 use sbl_script::Part;
-use sbl_text::{Kind, Sign, Token, Word, tokens};
+use sbl_text::{Kind, Sign, Token, Word};
 use std::alloc::{AllocError, Global};
 
 /// How a name is used at a place.
@@ -84,12 +84,9 @@ fn defined_in(tokens: &[Token<'_>], name: &str) -> Option<Word> {
 
 /// Returns the word that declares what a script defines a name as, if it does and its tokens can be read.
 fn defined_as(alloc: Global, script: &[u8], name: &str) -> Option<Word> {
-    let Ok(text) = str::from_utf8(script) else {
-        return None;
-    };
-    match tokens(alloc, text) {
-        Ok(tokens) => defined_in(&tokens, name),
-        Err(_) => None,
+    match tokens_before(alloc, script, script.len()) {
+        Some(tokens) => defined_in(&tokens, name),
+        None => None,
     }
 }
 
