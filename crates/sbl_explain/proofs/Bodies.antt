@@ -24,7 +24,7 @@ use Rattle.sbl_semantics.specs.Meaning.{Offer, prefixed_does, counted_does, join
 use Rattle.sbl_semantics.specs.inside.MeaningParts.{begins}
 use Rattle.sbl_ast.specs.declared.tree.Constant.{Constant}
 use Rattle.sbl_ast.specs.declared.tree.Constant.TheVariants as constants
-use Rattle.sbl_explain.specs.RoutineAmongs.{HasAmong, IsIn, IsInGroups, IsInOthers, IsInRows, IsInStarter}
+use Rattle.sbl_explain.specs.TreeAmongs.{HasAmong, IsIn, IsInGroups, IsInOthers, IsInRows, IsInStarter}
 use Rattle.sbl_explain.proofs.FirstAmongs.{first_is, none_is, others_are, rows_are}
 use Rattle.sbl_explain.proofs.RunParts.{Any_refusal, Family, GoodIn, Part, Some_end, at, forget, if_part, part_same, signals_good}
 use Rattle.sbl_explain.proofs.Onward.{after_part, paid_good}

@@ -24,7 +24,8 @@ use Rattle.sbl_semantics.specs.inside.MeaningParts.{begins}
 use Rattle.sbl_semantics.specs.declared.fault.RunFault.TheVariants as faults
 use Rattle.sbl_semantics.specs.Outcome.{events_at, events_in, events_of}
 use Rattle.sbl_machine.specs.Why.{text_after}
-use Rattle.sbl_explain.specs.RoutineAmongs.{HasAmong, IsInOthers}
+use Rattle.sbl_explain.specs.TreeAmongs.{HasAmong, IsInOthers}
+use Rattle.sbl_explain.proofs.LandmarkAmongs.{has_landmark}
 use Rattle.sbl_explain.specs.Searches.{IsWhole, Course, EachSearchTakesFirst, EndsWith, SearchesTakeFirst, TakesFirst, call_of, course, fits, with_calls, within}
 use Rattle.sbl_explain.proofs.FirstAmongs.{none_is, others_are}
 use Rattle.sbl_explain.proofs.RunParts.{Any_refusal, Each, Family, GoodIn, IsOne, Moment, Part, PartBy, PartX, Some_end, add, add_add, add_none, at, each_append, each_at, here_with, recorded_events, stop_with, text_append, with_add, with_one}
@@ -198,7 +199,7 @@ each_search_takes_first script word limit before rest i k m c e =
       at_cursor = h.8.1;
       in_text = h.6;
       among = h.8.2;
-      there = h.8.3 refl;
+      there = has_landmark known bodies i h.8.2 (h.8.3 refl);
       number = h.8.4;
       first = subst (λ es. TakesFirst known bodies h.8.2 h.1.text c (bound_of m h.1) es) (append-nil rest) h.8.5;
       ends = λ z. subst (λ es. (x : Event') × ((course es).end ≡ Some x)) (append-nil rest) (h.8.6 z);

@@ -7,7 +7,7 @@ use Rattle.sbl_semantics.specs.Landmarks.{Among, mode_under}
 use Rattle.sbl_ast.specs.Tree as trees
 use Rattle.sbl_ast.specs.Tree.{bracket, simple_, literal_, name_, non_, prefixed, counted, move_, named, splice_, setlimit_, assign_, compare_, compare_values_, among_, no_rows, row, no_others, joined}
 use Rattle.sbl_ast.specs.declared.mode.Mode.{Mode}
-use Rattle.sbl_explain.specs.RoutineAmongs.{IsIn, IsInOthers, IsInRows}
+use Rattle.sbl_explain.specs.TreeAmongs.{IsIn, IsInOthers, IsInRows}
 
 module _ (P : Among → Type 0) where
   pub none_is : (a : Among) → None ≡ Some a → P a

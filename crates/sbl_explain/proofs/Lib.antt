@@ -4,6 +4,7 @@ pub mod Onward
 pub mod Commands
 pub mod Compounds
 pub mod FirstAmongs
+pub mod LandmarkAmongs
 pub mod SearchesEnd
 pub mod Bodies
 pub mod EachSearch

@@ -10,7 +10,7 @@ use Rattle.sbl_semantics.specs.Events.{Event', Enters, Leaves, Searches, Finds, 
 use Rattle.sbl_semantics.specs.inside.EventParts.{with_event}
 use Rattle.sbl_semantics.specs.Numbers.{Value, continue_with}
 use Rattle.sbl_semantics.specs.State.{State, Ending, Signals, Stops, Doing, bound_of}
-use Rattle.sbl_explain.specs.RoutineAmongs.{HasAmong}
+use Rattle.sbl_explain.specs.TreeAmongs.{HasAmong}
 use Rattle.sbl_semantics.specs.Landmarks.{Among}
 use Rattle.sbl_explain.specs.Searches.{TakesFirst, course, within}
 

@@ -18,7 +18,7 @@ use Rattle.sbl_semantics.specs.declared.cursor.SavedCursor.{SavedCursor}
 use Rattle.sbl_semantics.specs.State.{State, Ending, Signals, Stops, Doing, after, bound_of, pay, place_after, saved_cursor, then_on}
 use Rattle.sbl_semantics.specs.Fitting.{ahead_at, below, fitting, onto, read_all, read_as}
 use Rattle.sbl_ast.specs.declared.mode.Mode.{Mode}
-use Rattle.sbl_explain.specs.RoutineAmongs.{HasAmong}
+use Rattle.sbl_explain.specs.TreeAmongs.{HasAmong}
 use Rattle.sbl_explain.specs.Searches.{Call, Course, EndsBy, EndsWith, TakesFirst, condition_calls, course, fits, is_conditional, no_offer, refusals, call_of, string_of, with_calls}
 use Rattle.std.proofs.Math.Path.{fun_ext}
 use Rattle.sbl_semantics.specs.declared.fault.RunFault.TheVariants as faults

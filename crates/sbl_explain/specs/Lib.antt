@@ -13,6 +13,7 @@ pub mod UsesLaws
 pub mod EventsStay
 -- what the functions inside the crate promise each other: nothing in these need be believed
 pub mod OpenSearches
+pub mod TreeAmongs
 pub mod EventViews
 pub mod Places
 pub mod GatheredGroups
