@@ -20,6 +20,6 @@ pub use definitions::{definition_of, definition_text, without_head};
 pub use fault_lists::{PlacedFault, faults_of_text};
 pub use fault_numbers::number_of;
 pub use fault_places::{FaultPlace, offset_of_fault, place_of_fault};
-pub use parts::{Excerpt, begins_item, cut_at_part};
+pub use parts::{Excerpt, begins_item, cut_at_part, depth_after};
 pub use positions::{Position, position_of};
 pub use sbl_text::ScriptFault;

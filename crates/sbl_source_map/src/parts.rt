@@ -75,7 +75,7 @@ fn closes(token: &Token<'_>) -> bool
 }
 
 /// Returns how many parentheses are open after the token.
-fn depth_after(token: &Token<'_>, depth: usize) -> usize
+pub fn depth_after(token: &Token<'_>, depth: usize) -> usize
     requires { depth + 1 < 2 ^ 64 }
     ensures { result ≡ parts.depth_after (lexeme_of token.now) depth }
 {

@@ -7,7 +7,7 @@ ghost use Rattle.sbl_source_map.specs.PartTokens as parts;
 ghost use Rattle.sbl_source_map.specs.SubjectTokens as subjects;
 ghost use Rattle.sbl_text_rows.specs.PlaceRows.{end_after};
 
-use sbl_source_map::begins_item;
+use sbl_source_map::{begins_item, depth_after};
 use sbl_text::{Kind, Sign, Token, Word};
 
 /// Whether a token closes a parenthesis.
@@ -45,18 +45,6 @@ fn ends_item(token: &Token<'_>) -> bool
     match token.kind {
         Kind::Word(word) => begins_item(word),
         _ => closes(token),
-    }
-}
-
-/// Returns how many parentheses are open after a token.
-fn depth_after(token: &Token<'_>, depth: usize) -> usize
-    requires { depth + 1 < 2 ^ 64 }
-    ensures { result ≡ parts.depth_after (lexeme_of token.now) depth }
-{
-    match token.kind {
-        Kind::Sign(Sign::Open) => depth + 1,
-        Kind::Sign(Sign::Close) => depth.saturating_sub(1),
-        _ => depth,
     }
 }
 
