@@ -6,8 +6,7 @@ use Rattle.sbl_text.specs.declared.fault.ScriptFault.TheVariants as fault
 use Rattle.sbl_ast.specs.Tree.{Item}
 use Rattle.sbl_resolver.specs.declared.occurrences.Occurrence as noted
 use Rattle.sbl_resolver.specs.Occurrences.{Occurrence, occurrences_of}
-use Rattle.sbl_resolver.specs.Checks.{fault_at, fault_after, fault_of}
-use Rattle.sbl_resolver.specs.inside.CheckParts.{has_external}
+use Rattle.sbl_resolver.specs.Checks.{fault_at, fault_after, fault_of, has_external}
 use Rattle.sbl_resolver.specs.Subjects.{subjects_of}
 use Rattle.sbl_resolver.specs.AllFaults.{fault_here, faults_after, faults_of, first_of, FaultIsFirstOfAll, IsListed, EachFaultIsListed}
 use Rattle.sbl_resolver.specs.OccurrenceView.{view_occurrence, view_occurrences}

@@ -5,8 +5,7 @@ use Rattle.sbl_text.specs.declared.fault.ScriptFault.{ScriptFault}
 use Rattle.sbl_text.specs.declared.fault.ScriptFault.TheVariants as fault
 use Rattle.sbl_ast.specs.Tree.{Item}
 use Rattle.sbl_resolver.specs.Occurrences.{Occurrence, occurrences_of}
-use Rattle.sbl_resolver.specs.Checks.{fault_at, fault_of}
-use Rattle.sbl_resolver.specs.inside.CheckParts.{has_external}
+use Rattle.sbl_resolver.specs.Checks.{fault_at, fault_of, has_external}
 use Rattle.sbl_resolver.specs.Subjects.{subjects_of}
 
 -- the fault of an occurrence, if it has one

@@ -169,3 +169,7 @@ WellDeclared items external = fault_of items external ≡ None
 -- a name of this kind needs a definition
 abbrev pub needs_definition : DeclarationKind → Bool
 needs_definition k = is_routine k || is_grouping k
+
+-- the name is declared in `externals` and defined in forward mode
+abbrev pub has_external : List Item → List ℕ → List Occurrence → Bool
+has_external items external all = option_map_or (is_kind kinds.Externals) (kind_of external all) false && is_some (body_in external items)

@@ -9,8 +9,7 @@ use Rattle.sbl_resolver.specs.declared.occurrences.Site.{Site}
 use Rattle.sbl_resolver.specs.declared.occurrences.Use.{Use}
 use Rattle.sbl_resolver.specs.Occurrences.{Occurrence, uses, substring, occurrences_of}
 use Rattle.sbl_resolver.specs.Checks.{kind_of, definition_of, may_be, needs_definition, is_routine, is_mode}
-use Rattle.sbl_resolver.specs.Checks.{is_followed, fault_at, fault_of, WellDeclared}
-use Rattle.sbl_resolver.specs.inside.CheckParts.{has_external}
+use Rattle.sbl_resolver.specs.Checks.{is_followed, fault_at, fault_of, has_external, WellDeclared}
 
 -- no check fails at any occurrence
 abbrev pub EachPasses : List Occurrence → Type 0

@@ -4,7 +4,7 @@ use Rattle.std.specs.List.{fold}
 use Rattle.sbl_ast.specs.declared.tree.Additive.TheVariants.{Plus}
 use Rattle.sbl_ast.specs.Order.{ItemInMode}
 use Rattle.sbl_ast.specs.Tree.{Argument, Term, term}
-use Rattle.sbl_machine.specs.BuiltFrom.{and_built}
+use Rattle.sbl_machine.specs.BuiltFrom.{and_built, any_names}
 
 -- whether the first term or one of the others names a chosen grouping
 abbrev pub built_on : (List ℕ → Bool) → Argument → List Term → Bool
