@@ -1,5 +1,6 @@
 -- A line that is kept and a reply, without memory addresses.
-use Rattle.std.specs.Prelude.{◌≡◌, ℕ, true, List, Option, Some, None, Result, Ok, Err, String, string_bytes}
+use Rattle.std.specs.Prelude.{◌≡◌, ℕ, Bool, true, false, List, Option, Some, None, Result, Ok, Err, String, codes, nat_eq, string_bytes}
+use Rattle.std.specs.List.{starts_with}
 use Rattle.std.specs.Option.{is_some}
 use Rattle.sbl_bench.specs.Edits as edits
 use Rattle.std.specs.declared.alloc.AllocError.{AllocError}
@@ -19,6 +20,11 @@ KeepsLine (Err e) line = is_some (command.target_of line) ≡ true
 abbrev pub IsReply : Reply → List ℕ → Type 0
 IsReply (reply.Report v) text = v.items ≡ text
 IsReply (reply.Fixed s) text = s.now ≡ text
+
+-- The reply refuses a request: it is a fixed text that begins with `no` and a blank. No report does.
+abbrev pub is_refusal : Reply → Bool
+is_refusal (reply.Report v) = false
+is_refusal (reply.Fixed s) = starts_with nat_eq s.now (codes "no ")
 
 -- the text of the reply to a command, and the bench after it, for some memory
 abbrev pub IsTextAnswer : Contents → command.Command → List ℕ → Contents → Type 0

@@ -2,7 +2,7 @@
 ghost use Rattle.std.specs.Prelude.{◌≡◌, ◌≤◌, ℕ, List, Some, IfErr, IfOk, OnErr, OnOk, take};
 ghost use Rattle.std.specs.Io.KnownBytes.{Appends};
 ghost use Rattle.sbl_sessions.specs.Answers as spec;
-ghost use Rattle.sbl_sessions.specs.CommandViews.{IsReply};
+ghost use Rattle.sbl_sessions.specs.CommandViews.{IsReply, is_refusal};
 ghost use Rattle.sbl_io.specs.Devices.{HasStopped, WritesInTime};
 ghost use Rattle.sbl_sessions.specs.EditFaults.{fault_in};
 
@@ -18,6 +18,19 @@ pub enum Reply {
     Report(Vec<u8>),
     /// A fixed text.
     Fixed(&'static str),
+}
+
+impl Reply {
+    /// Returns whether the reply is that to a request that is refused: `no`, with the number and name of the fault. No report is one,
+    /// whatever its rows are.
+    pub fn is_refusal(&self) -> bool
+        ensures { result ≡ is_refusal self.now }
+    {
+        match self {
+            Reply::Report(_) => false,
+            Reply::Fixed(text) => text.starts_with("no "),
+        }
+    }
 }
 
 /// The reply to an unknown command.

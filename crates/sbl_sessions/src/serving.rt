@@ -127,8 +127,8 @@ pub fn serve<R: Source + Drop, W: Sink>(
     serve_watched(bench, lines, writer, &mut NoWatch {})
 }
 
-/// Does what `serve` does, and tells `watch` of each edit of the script that is refused: after its reply, before the next line is
-/// read. What `watch` does has no part in the session.
+/// Does what `serve` does, and tells `watch` of each reply, and of each edit of the script that is refused: after its reply, before the next
+/// line is read. What `watch` does has no part in the session.
 pub fn serve_watched<R: Source + Drop, W: Sink, S: Watch>(
     bench: &mut Bench,
     lines: &mut Lines<R>,
@@ -151,6 +151,7 @@ pub fn serve_watched<R: Source + Drop, W: Sink, S: Watch>(
         row = row.saturating_add(1);
         let answered = answer(bench, lines)?;
         write_reply(writer, &answered.reply)?;
+        watch.see_reply(&answered.reply);
         if let Some(edit) = &answered.refused {
             watch.see_refused(bench, edit, row);
         }

@@ -1,5 +1,6 @@
-//! Watching a session: a watch sees each edit that the session refuses.
+//! Watching a session: a watch sees each reply, and each edit that the session refuses.
 
+use crate::replies::Reply;
 use sbl_bench::{Bench, EditFault, Progress};
 
 /// An edit of the script that was refused.
@@ -18,6 +19,9 @@ pub trait Watch {
     /// Is called before the first command.
     fn begin(&mut self, bench: &Bench);
 
+    /// Is called after each reply, before the next line is read.
+    fn see_reply(&mut self, reply: &Reply);
+
     /// Is called after the reply to an edit that is refused, before the next line is read. `row` is the number of lines of the
     /// session up to the line that asks for the edit.
     fn see_refused(&mut self, bench: &Bench, edit: &RefusedEdit, row: u64);
@@ -29,6 +33,8 @@ pub struct NoWatch {}
 
 impl Watch for NoWatch {
     fn begin(&mut self, _bench: &Bench) {}
+
+    fn see_reply(&mut self, _reply: &Reply) {}
 
     fn see_refused(&mut self, _bench: &Bench, _edit: &RefusedEdit, _row: u64) {}
 }

@@ -17,7 +17,7 @@ use std::alloc::Global;
 
 /// Runs a session over files: opens the bench of the script over the words, and answers the commands, as `serve_watched` does. The script
 /// is the lines of its file, each followed by a line feed. The words are the lines of theirs; no line ends them. The keys are those of the
-/// hash by which words are found. `watch` sees how many words were run, and each edit that is refused.
+/// hash by which words are found. `watch` sees how many words were run, each reply, and each edit that is refused.
 ///
 /// # Errors
 ///

@@ -88,8 +88,8 @@ pub fn run_with<R: Source + Drop, W: Sink, E: Sink>(
     run_watched(wanted, keys, lines, writer, errors, &mut NoWatch {})
 }
 
-/// Does what `run_with` does. `watch` sees each edit that a session refuses, as by `serve_watched`, and for `session` and `check` how many
-/// words were run.
+/// Does what `run_with` does. `watch` sees each reply of a session and each edit that it refuses, as by `serve_watched`, and for `session`
+/// and `check` how many words were run.
 pub fn run_watched<R: Source + Drop, W: Sink, E: Sink, S: Watch + Progress>(
     wanted: &Wanted,
     keys: WordKeys,
