@@ -19,9 +19,12 @@ fn encoding_of(text: &[u8]) -> Encoding {
     }
 }
 
-/// Appends what the text may be, and how to make it UTF-8. `name` is the name of its file. Returns `AllocError` if an allocation
-/// fails.
-pub fn push_conversion(shown: &mut String, text: &[u8], name: &str) -> Result<(), AllocError> {
+/// Appends what the text may be, and how to make it UTF-8. `name` is the name of its file.
+pub(crate) fn push_conversion(
+    shown: &mut String,
+    text: &[u8],
+    name: &str,
+) -> Result<(), AllocError> {
     let (guess, command) = match encoding_of(text) {
         Encoding::Gzip => ("If gzip compressed it: ", "gzip -d < "),
         Encoding::Latin1 => ("If it is Latin-1: ", "iconv -f latin1 -t utf-8 "),

@@ -10,6 +10,7 @@ mod encodings;
 mod expectations;
 mod foreign;
 mod grammar;
+mod line_faults;
 mod near;
 mod one_line;
 mod places;
@@ -21,6 +22,6 @@ mod undeclared;
 
 pub use block_faults::{TypedBlock, part_text, whole_text};
 pub use characters::{plain_text, push_named};
-pub use encodings::push_conversion;
+pub use line_faults::{BadLine, LineRole, STANDARD_INPUT, bad_line_text};
 pub use one_line::{RefusedText, fault_sentence};
 pub use places::{fault_of, offset_of_byte, script_fault_text};

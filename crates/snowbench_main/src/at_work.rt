@@ -1,75 +1,33 @@
 //! Work on the files of a script and of words.
 
-use crate::messages::{FAILED, NO_KEYS, REFUSED, fail_memory};
-use crate::work_places::WorkPlaces;
+use crate::failures::{Failure, REFUSED, random_keys};
+use crate::places::WorkPlaces;
 use sbl_work::{NoObserver, Observer, Paths, work_observed};
-use snowbench::{Device, Face, Lines, Options, Wanted};
-use std::alloc::AllocError;
+use snowbench::{Device, Face, Lines, Wanted};
 use std::hash::RandomState;
 use std::io::IsTerminal;
 
-/// Returns whether faults are shown with their places: if the face is text, also by default at a terminal.
-fn shows_places(rt: &HostRuntime, face: Option<Face>) -> bool {
-    match face {
-        Some(Face::Rows) => false,
-        Some(Face::Text) => true,
-        None => rt.stdout().is_terminal(),
-    }
-}
-
-/// Returns the name of the file of the text that the work begins with.
-fn first_text(paths: &Paths) -> &str {
-    match &paths.from {
-        Some(path) => path.as_str(),
-        None => paths.script.as_str(),
-    }
-}
-
-/// Works on the files of the command line, and returns the exit status. The prompt is written if the face is text, and both
-/// input and output are a terminal.
-pub(crate) fn start_work(rt: &HostRuntime, wanted: Wanted) -> u8 {
-    let Wanted {
-        verb: _,
-        external,
-        options,
-    } = wanted;
-    let Options {
-        script,
-        old: _,
-        new: _,
-        words,
-        commands: _,
-        stems: _,
-        is_strict: _,
-        shows_places: _,
-        face,
-        from,
-        form: _,
-    } = options;
-    let Some(script) = script else {
-        return REFUSED;
+/// Works on the files of the command line, and returns the exit status. Faults are shown with their places if the face is text, also by
+/// default at a terminal. The prompt is written if the face is text, and both input and output are a terminal.
+pub(crate) fn start_work(rt: &HostRuntime, mut wanted: Wanted) -> Result<u8, Failure> {
+    let Some(script) = wanted.options.script.take() else {
+        return Ok(REFUSED);
     };
     let paths = Paths {
         script,
-        words,
-        external,
-        from,
+        words: wanted.options.words.take(),
+        external: String::from_str(rt.alloc(), wanted.external.as_str())?,
+        from: wanted.options.from.take(),
     };
-    let Ok(keys) = RandomState::new(rt) else {
-        let _ = eprintln!(rt; "{NO_KEYS}");
-        return FAILED;
-    };
-    let is_terminal = rt.stdin().is_terminal() && rt.stdout().is_terminal();
-    let prompts = is_terminal && face != Some(Face::Rows);
-    let ended = if shows_places(rt, face) {
-        let mut places = WorkPlaces::new(rt, paths.external.as_str(), first_text(&paths));
+    let keys = random_keys(rt)?;
+    let face = wanted.options.face;
+    let is_shown = rt.stdout().is_terminal();
+    let prompts = is_shown && rt.stdin().is_terminal() && face != Some(Face::Rows);
+    if face == Some(Face::Text) || (face.is_none() && is_shown) {
+        let mut places = WorkPlaces::new(rt, &paths);
         work_over(rt, keys, &paths, prompts, &mut places)
     } else {
         work_over(rt, keys, &paths, prompts, &mut NoObserver {})
-    };
-    match ended {
-        Ok(status) => status,
-        Err(_) => fail_memory(rt),
     }
 }
 
@@ -80,7 +38,7 @@ fn work_over<S: Observer>(
     paths: &Paths,
     prompts: bool,
     observer: &mut S,
-) -> Result<u8, AllocError> {
+) -> Result<u8, Failure> {
     let mut lines = Lines::new(rt.alloc(), Device::new(rt.stdin()))?;
     let mut writer = Device::new(rt.stdout());
     let mut errors = Device::new(rt.stderr());

@@ -1,6 +1,6 @@
 //! A comparison of two scripts in words, for people.
 
-use crate::messages::count_and_word;
+use crate::failures::count_and_word;
 use sbl_batch::ScriptComparison;
 use sbl_diagnostics::push_named;
 use sbl_io::text_of;
@@ -28,39 +28,44 @@ enum Kind {
     Renamed,
     /// A word has another stem.
     Word,
-    /// A word is only in one of the lists.
+    /// A word is only in one of the lists, which two scripts over one list never have.
     Lone,
 }
 
-/// The kinds of changes that a comparison has, the most telling first.
-const KINDS: [Kind; 7] = [
-    Kind::Refused,
-    Kind::Otherwise,
-    Kind::Accepted,
-    Kind::Split,
-    Kind::Merged,
-    Kind::Renamed,
-    Kind::Word,
+/// The kinds of changes that a comparison has, the most telling first, with what is said of one change and of several.
+const KINDS: [(Kind, &str, &str); 7] = [
+    (
+        Kind::Refused,
+        "word is refused now",
+        "words are refused now",
+    ),
+    (
+        Kind::Otherwise,
+        "word is refused for another reason",
+        "words are refused for another reason",
+    ),
+    (
+        Kind::Accepted,
+        "word is no longer refused",
+        "words are no longer refused",
+    ),
+    (Kind::Split, "class is split", "classes are split"),
+    (
+        Kind::Merged,
+        "class is made of several",
+        "classes are made of several",
+    ),
+    (
+        Kind::Renamed,
+        "class has another stem",
+        "classes have another stem",
+    ),
+    (
+        Kind::Word,
+        "word has another stem",
+        "words have another stem",
+    ),
 ];
-
-impl Kind {
-    /// Returns what is said of one change of this kind, and of several.
-    fn headings(self) -> (&'static str, &'static str) {
-        match self {
-            Kind::Refused => ("word is refused now", "words are refused now"),
-            Kind::Otherwise => (
-                "word is refused for another reason",
-                "words are refused for another reason",
-            ),
-            Kind::Accepted => ("word is no longer refused", "words are no longer refused"),
-            Kind::Split => ("class is split", "classes are split"),
-            Kind::Merged => ("class is made of several", "classes are made of several"),
-            Kind::Renamed => ("class has another stem", "classes have another stem"),
-            Kind::Word => ("word has another stem", "words have another stem"),
-            Kind::Lone => ("word is only in one list", "words are only in one list"),
-        }
-    }
-}
 
 /// Returns the kind of a change.
 fn kind_of(change: &ChangeRow<'_>) -> Kind {
@@ -93,14 +98,25 @@ pub(crate) fn comparison_words(
         None => shown.push_str(" differ in more than bodies of routines and terms of groupings\n")?,
         Some(items) => push_items(&mut shown, items)?,
     }
-    for kind in KINDS {
-        push_kind(&mut shown, &comparison.changes, kind)?;
+    for (kind, one, many) in KINDS {
+        let number = count_of(&comparison.changes, kind);
+        if number > 0 {
+            push_count(&mut shown, number, one, many)?;
+            shown.push_str("\n")?;
+            push_changes(&mut shown, &comparison.changes, kind)?;
+            push_more(&mut shown, number)?;
+        }
     }
-    let words = count_and_word(alloc, comparison.words as u64, "word", "words")?;
-    shown.push_str(words.as_str())?;
+    push_count(&mut shown, comparison.words, "word", "words")?;
     let changed = format!(in alloc; ", {} changed\n", comparison.changed)?;
     shown.push_str(changed.as_str())?;
     Ok(shown)
+}
+
+/// Appends a number, and the word for one or for more.
+fn push_count(shown: &mut String, number: usize, one: &str, many: &str) -> Result<(), AllocError> {
+    let text = count_and_word(*shown.allocator(), number as u64, one, many)?;
+    shown.push_str(text.as_str())
 }
 
 /// Appends in which items two scripts differ.
@@ -108,9 +124,8 @@ fn push_items(shown: &mut String, items: &[Item]) -> Result<(), AllocError> {
     if items.is_empty() {
         return shown.push_str(" are the same but for layout and comments\n");
     }
-    let count = count_and_word(*shown.allocator(), items.len() as u64, "part", "parts")?;
-    let line = format!(in *shown.allocator(); " differ in {count}\n")?;
-    shown.push_str(line.as_str())?;
+    shown.push_str(" differ in ")?;
+    push_count(shown, items.len(), "part\n", "parts\n")?;
     for item in items.iter().take(MOST) {
         push_item(shown, item)?;
     }
@@ -119,12 +134,11 @@ fn push_items(shown: &mut String, items: &[Item]) -> Result<(), AllocError> {
 
 /// Appends the line of an item.
 fn push_item(shown: &mut String, item: &Item) -> Result<(), AllocError> {
+    let alloc = *shown.allocator();
     let line = match item {
-        Item::Routine(name) => format!(in *shown.allocator(); "  routine {name}\n")?,
-        Item::Among(name, number) => format!(in *shown.allocator();
-            "  among {number} of {name}\n"
-        )?,
-        Item::Grouping(name) => format!(in *shown.allocator(); "  grouping {name}\n")?,
+        Item::Routine(name) => format!(in alloc; "  routine {name}\n")?,
+        Item::Among(name, number) => format!(in alloc; "  among {number} of {name}\n")?,
+        Item::Grouping(name) => format!(in alloc; "  grouping {name}\n")?,
     };
     shown.push_str(line.as_str())
 }
@@ -139,19 +153,20 @@ fn push_more(shown: &mut String, number: usize) -> Result<(), AllocError> {
     shown.push_str(line.as_str())
 }
 
-/// Appends the changes of one kind, if there are some.
-fn push_kind(shown: &mut String, changes: &[ChangeRow<'_>], kind: Kind) -> Result<(), AllocError> {
-    let number = changes
+/// Returns how many changes are of one kind.
+fn count_of(changes: &[ChangeRow<'_>], kind: Kind) -> usize {
+    changes
         .iter()
         .filter(|change| kind_of(change) == kind)
-        .count();
-    if number == 0 {
-        return Ok(());
-    }
-    let (one, many) = kind.headings();
-    let heading = count_and_word(*shown.allocator(), number as u64, one, many)?;
-    shown.push_str(heading.as_str())?;
-    shown.push_str("\n")?;
+        .count()
+}
+
+/// Appends the lines of the first changes of one kind.
+fn push_changes(
+    shown: &mut String,
+    changes: &[ChangeRow<'_>],
+    kind: Kind,
+) -> Result<(), AllocError> {
     let mut left = MOST;
     for change in changes {
         if kind_of(change) == kind && left > 0 {
@@ -159,7 +174,7 @@ fn push_kind(shown: &mut String, changes: &[ChangeRow<'_>], kind: Kind) -> Resul
             push_change(shown, change)?;
         }
     }
-    push_more(shown, number)
+    Ok(())
 }
 
 /// Appends the line of a change.

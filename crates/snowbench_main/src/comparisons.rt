@@ -1,67 +1,53 @@
 //! `compare` over files.
 
 use crate::compared_words::comparison_words;
-use crate::fault_texts::{FaultText, words_fault_text};
-use crate::file_names::{FileNames, NamedFile, reads_twice};
-use crate::messages::{NO_MEMORY, REFUSED, print_fault, word_keys};
+use crate::failures::{Failure, REFUSED, plain, word_keys};
+use crate::fault_texts::{FaultText, fault_of_script, words_fault_text};
+use crate::files::{FileNames, RunFiles, read_file, refuse_twice};
 use crate::progress_line::ProgressLine;
-use crate::reading::read_file;
 use crate::streams::Output;
 use sbl_batch::{
     BenchPair, CompareFault, CompareInput, compare, compare_status, open_pair, write_comparison,
 };
-use sbl_diagnostics::{plain_text, script_fault_text};
 use sbl_io::write_all;
-use snowbench::{Device, Face, LoadFault, ScriptFault, Verb, Wanted, WordKeys};
+use snowbench::{Device, Face, LoadFault, Progress, Verb, Wanted, WordKeys};
 use std::alloc::{AllocError, Global};
 use std::io::IsTerminal;
 
-/// The text that is printed if `compare` names standard input twice.
+/// The line if `compare` names standard input twice.
 const NAMED_TWICE_BY_COMPARE: &str =
     "snowbench: standard input can be only one of OLD, NEW and WORDS";
 
-/// The files of a comparison.
-#[derive(Drop)]
-struct CompareFiles<'a> {
-    old: NamedFile<'a>,
-    new: NamedFile<'a>,
-    words: NamedFile<'a>,
-}
-
-/// Reads the files, of which the names are those of the old script, of the words and of the new script. If one cannot be read, prints why
-/// and returns a status.
-fn read_compared<'a>(rt: &HostRuntime, names: FileNames<'a>) -> Result<CompareFiles<'a>, u8> {
-    let old = read_file(rt, names.script, "lines of the old script")?;
-    let new = read_file(rt, names.rest.unwrap_or("-"), "lines of the new script")?;
+/// Reads the old script, the words and the new script of a comparison.
+fn read_compared<'a>(rt: &HostRuntime, names: FileNames<'a>) -> Result<RunFiles<'a>, Failure> {
+    let script = read_file(rt, names.script, "lines of the old script")?;
+    let rest = read_file(rt, names.rest.unwrap_or("-"), "lines of the new script")?;
     let words = read_file(rt, names.words, "words")?;
-    Ok(CompareFiles { old, new, words })
+    Ok(RunFiles {
+        script,
+        words,
+        rest,
+    })
 }
 
 /// Compares the scripts of two files over the words of a third, and returns the exit status.
-pub(crate) fn start_compare(rt: &HostRuntime, wanted: &Wanted) -> u8 {
+pub(crate) fn run_compare(rt: &HostRuntime, wanted: &Wanted) -> Result<u8, Failure> {
     let options = &wanted.options;
     let (Some(old), Some(new), Some(words)) = (&options.old, &options.new, &options.words) else {
-        return REFUSED;
+        return Ok(REFUSED);
     };
     let names = FileNames {
         script: old.as_str(),
         words: words.as_str(),
         rest: Some(new.as_str()),
     };
-    if reads_twice(names) {
-        let _ = eprintln!(rt; "{NAMED_TWICE_BY_COMPARE}");
-        return REFUSED;
-    }
-    let Ok(files) = read_compared(rt, names) else {
-        return REFUSED;
-    };
-    let Some(keys) = word_keys(rt) else {
-        return REFUSED;
-    };
+    refuse_twice(names, NAMED_TWICE_BY_COMPARE)?;
+    let files = read_compared(rt, names)?;
+    let keys = word_keys(rt)?;
     let input = CompareInput {
         external: wanted.external.as_str(),
-        old: &files.old.bytes,
-        new: &files.new.bytes,
+        old: &files.script.bytes,
+        new: &files.rest.bytes,
         words: &files.words.bytes,
     };
     if options.face == Some(Face::Rows) || !rt.stdout().is_terminal() {
@@ -75,16 +61,18 @@ pub(crate) fn start_compare(rt: &HostRuntime, wanted: &Wanted) -> u8 {
 fn compare_in_rows(
     rt: &HostRuntime,
     keys: WordKeys,
-    files: &CompareFiles<'_>,
+    files: &RunFiles<'_>,
     input: &CompareInput<'_>,
-) -> u8 {
+) -> Result<u8, Failure> {
     let mut writer = Device::new(Output::new(rt.stdout()));
     let mut progress = ProgressLine::new(rt, Verb::Compare);
-    match write_comparison(rt.alloc(), keys, input, &mut writer, &mut progress) {
-        Ok(changed) => compare_status(changed),
+    let written = write_comparison(rt.alloc(), keys, input, &mut writer, &mut progress);
+    progress.see_end();
+    match written {
+        Ok(changed) => Ok(compare_status(changed)),
         Err(fault) => {
             let is_closed = writer.into_inner().is_closed();
-            fail_compare(rt, files, input, fault, is_closed)
+            Err(compare_failure(rt.alloc(), files, input, fault, is_closed))
         }
     }
 }
@@ -93,72 +81,54 @@ fn compare_in_rows(
 fn compare_in_words(
     rt: &HostRuntime,
     keys: WordKeys,
-    files: &CompareFiles<'_>,
+    files: &RunFiles<'_>,
     input: &CompareInput<'_>,
-) -> u8 {
+) -> Result<u8, Failure> {
     let mut progress = ProgressLine::new(rt, Verb::Compare);
-    let pair = match open_pair(rt.alloc(), keys, input, &mut progress) {
+    let opened = open_pair(rt.alloc(), keys, input, &mut progress);
+    progress.see_end();
+    let pair = match opened {
         Ok(pair) => pair,
-        Err(fault) => return fail_compare(rt, files, input, fault, false),
+        Err(fault) => return Err(compare_failure(rt.alloc(), files, input, fault, false)),
     };
-    let status = match words_of_pair(rt.alloc(), files, &pair) {
-        Ok((text, changed)) => match write_all(&mut Device::new(rt.stdout()), text.as_bytes()) {
-            Ok(()) => compare_status(changed),
-            Err(fault) => print_fault(rt, LoadFault::Input(fault), false, Ok(None), REFUSED),
-        },
-        Err(_) => fail_memory(rt),
-    };
+    let made = words_of_pair(rt.alloc(), files, &pair);
     pair.leak();
-    status
+    let (text, changed) = made?;
+    match write_all(&mut Device::new(rt.stdout()), text.as_bytes()) {
+        Ok(()) => Ok(compare_status(changed)),
+        Err(fault) => Err(Failure::Fault(LoadFault::Input(fault), None)),
+    }
 }
 
 /// Returns the comparison of two benches in words, without characters that a terminal obeys, and the number of words that
 /// changed.
 fn words_of_pair(
     alloc: Global,
-    files: &CompareFiles<'_>,
+    files: &RunFiles<'_>,
     pair: &BenchPair,
 ) -> Result<(String, usize), AllocError> {
     let comparison = compare(alloc, &pair.old, &pair.new)?;
-    let text = comparison_words(alloc, files.old.name, files.new.name, &comparison)?;
-    Ok((plain_text(alloc, text.as_str())?, comparison.changed))
+    let text = comparison_words(alloc, files.script.name, files.rest.name, &comparison);
+    Ok((plain(text)?, comparison.changed))
 }
 
-/// Prints that an allocation failed, and returns the status.
-fn fail_memory(rt: &HostRuntime) -> u8 {
-    let _ = eprintln!(rt; "{NO_MEMORY}");
-    REFUSED
-}
-
-/// Prints a fault, which file has it, and its place. Returns the exit status.
-fn fail_compare(
-    rt: &HostRuntime,
-    files: &CompareFiles<'_>,
+/// Returns the failure of a comparison.
+fn compare_failure(
+    alloc: Global,
+    files: &RunFiles<'_>,
     input: &CompareInput<'_>,
     fault: CompareFault,
     is_closed: bool,
-) -> u8 {
-    let text = place_text(rt.alloc(), files, input, fault);
-    print_fault(rt, fault.cause(), is_closed, text, REFUSED)
-}
-
-/// Returns the lines on a fault of a file. A failed allocation has none.
-fn place_text(
-    alloc: Global,
-    files: &CompareFiles<'_>,
-    input: &CompareInput<'_>,
-    fault: CompareFault,
-) -> FaultText {
-    match fault {
-        CompareFault::Old(ScriptFault::OutOfMemory) | CompareFault::New(ScriptFault::OutOfMemory) =>
-            { Ok(None) }
+) -> Failure {
+    let text = match fault {
         CompareFault::Old(fault) => {
-            script_fault_text(alloc, files.old.name, input.old, input.external, fault).map(Some)
+            fault_of_script(alloc, files.script.name, input.old, input.external, fault)
         }
         CompareFault::New(fault) => {
-            script_fault_text(alloc, files.new.name, input.new, input.external, fault).map(Some)
+            fault_of_script(alloc, files.rest.name, input.new, input.external, fault)
         }
         CompareFault::Words(fault) => words_fault_text(alloc, files.words.name, input.words, fault),
         CompareFault::Rows(_) => Ok(None),
-    }
+    };
+    Failure::of_fault(fault.cause(), is_closed, text)
 }

@@ -1,10 +1,12 @@
 //! What to say on a fault beside its line: where it is, or what is missing.
 
 use crate::blocks::split_at_point;
-use crate::file_names::{RunFiles, STANDARD_INPUT};
-use crate::messages::count_and_word;
+use crate::failures::count_and_word;
+use crate::files::RunFiles;
 use sbl_bench::{EditFault, MAX_WORD_LENGTH};
-use sbl_diagnostics::{offset_of_byte, push_conversion, push_named, script_fault_text};
+use sbl_diagnostics::{
+    BadLine, LineRole, STANDARD_INPUT, bad_line_text, offset_of_byte, push_named, script_fault_text,
+};
 use sbl_input::{read_script, without_mark};
 use sbl_source_map::position_of;
 use snowbench::{
@@ -13,15 +15,6 @@ use snowbench::{
 };
 use std::alloc::{AllocError, Global};
 
-/// What to do with a line of a script that is too long.
-const BREAK_IT: &str = "Break it";
-
-/// What to do with a line of words that is too long.
-const ONE_WORD: &str = "Write one word on each line";
-
-/// What to do with another line that is too long.
-const SHORTEN_IT: &str = "Shorten it";
-
 /// What is missing if an input ends inside a block of commands.
 const BLOCK_HAS_NO_END: &str =
     "  the input ends inside a block: a line that is a single point ends it";
@@ -29,55 +22,42 @@ const BLOCK_HAS_NO_END: &str =
 /// What there is to say on a fault, if there is something. It is an error if an allocation fails.
 pub(crate) type FaultText = Result<Option<String>, AllocError>;
 
-/// Returns the name of a file, the number of a line in it, and a text.
-fn line_text(alloc: Global, name: &str, line: u64, text: &str) -> Result<String, AllocError> {
-    let mut shown = String::new(alloc);
-    push_named(&mut shown, name)?;
-    let rest = format!(in alloc; ":{line}: {text}")?;
-    shown.push_str(rest.as_str())?;
-    Ok(shown)
-}
-
-/// Returns where the fault of a line is, and what to do. `name` is the name of the file, `bytes` are those of the file or of the line, and
-/// `advice` is what to do if the line is too long.
+/// Returns where the fault of a line is, and what to do. `name` is the name of the input, and `bytes` are those of the input or of the line.
 fn placed_text(
     alloc: Global,
     name: &str,
     placed: FileFault,
     bytes: &[u8],
-    advice: &str,
+    role: LineRole,
 ) -> FaultText {
     let Some(line) = placed.line else {
         return Ok(None);
     };
-    let text = match placed.fault {
-        LoadFault::Input(ServeFault::NotText) => {
-            let mut shown = line_text(alloc, name, line, "not UTF-8. ")?;
-            let old = if name == STANDARD_INPUT { "OLD" } else { name };
-            push_conversion(&mut shown, bytes, old)?;
-            return Ok(Some(shown));
-        }
-        LoadFault::Input(ServeFault::LineTooLong) => format!(in alloc;
-            "more than 65,536 bytes, which no line may have. {advice}"
-        )?,
-        LoadFault::Open(EditFault::WordTooLong) => format!(in alloc;
-            "more than {MAX_WORD_LENGTH} characters, which no word may have"
-        )?,
+    let problem = match placed.fault {
+        LoadFault::Input(ServeFault::NotText) => BadLine::NotText(bytes),
+        LoadFault::Input(ServeFault::LineTooLong) => BadLine::TooLong(role),
+        LoadFault::Open(EditFault::WordTooLong) => BadLine::LongWord(MAX_WORD_LENGTH),
         _ => return Ok(None),
     };
-    line_text(alloc, name, line, text.as_str()).map(Some)
+    bad_line_text(alloc, name, line, problem).map(Some)
 }
 
-/// Returns the number of the first line that is not UTF-8.
-fn line_without_text(bytes: &[u8]) -> Option<u64> {
-    match offset_of_byte(bytes) {
-        Some(offset) => Some(position_of(bytes, offset).line as u64),
-        None => None,
-    }
+/// Returns a fault, and the first line that may have it.
+fn place_in(bytes: &[u8], fault: LoadFault) -> FileFault {
+    let line = match fault {
+        LoadFault::Input(ServeFault::NotText) => match offset_of_byte(bytes) {
+            Some(offset) => Some(position_of(bytes, offset).line as u64),
+            None => None,
+        },
+        LoadFault::Input(ServeFault::LineTooLong) => overlong_line(bytes),
+        LoadFault::Open(EditFault::WordTooLong) => long_line(bytes),
+        _ => None,
+    };
+    FileFault { line, fault }
 }
 
 /// Returns the lines on a fault of a script.
-fn fault_of_script(
+pub(crate) fn fault_of_script(
     alloc: Global,
     name: &str,
     text: &[u8],
@@ -85,7 +65,7 @@ fn fault_of_script(
     fault: ScriptFault,
 ) -> FaultText {
     match fault {
-        ScriptFault::OutOfMemory | ScriptFault::ScriptTooLong => Ok(None),
+        ScriptFault::OutOfMemory => Ok(None),
         _ => script_fault_text(alloc, name, text, external, fault).map(Some),
     }
 }
@@ -99,40 +79,27 @@ pub(crate) fn files_fault_text(
 ) -> FaultText {
     let (script, words, rest) = (&files.script, &files.words, &files.rest);
     match fault {
-        FilesFault::Script(
-            FileFault {
-                fault: LoadFault::Script(fault),
-                ..
-            },
-        ) => {
-            let text = script_text(alloc, &script.bytes)?;
-            fault_of_script(alloc, script.name, &text, external, fault)
+        FilesFault::Script(placed) => match placed.fault {
+            LoadFault::Script(fault) => {
+                let text = script_text(alloc, &script.bytes)?;
+                fault_of_script(alloc, script.name, &text, external, fault)
+            }
+            _ => placed_text(alloc, script.name, placed, &script.bytes, LineRole::Script),
+        },
+        FilesFault::Words(placed) => {
+            placed_text(alloc, words.name, placed, &words.bytes, LineRole::Word)
         }
-        FilesFault::Script(placed) => {
-            placed_text(alloc, script.name, placed, &script.bytes, BREAK_IT)
+        FilesFault::Stems(placed) => {
+            placed_text(alloc, rest.name, placed, &rest.bytes, LineRole::Other)
         }
-        FilesFault::Words(placed) => placed_text(alloc, words.name, placed, &words.bytes, ONE_WORD),
-        FilesFault::Stems(placed) => placed_text(alloc, rest.name, placed, &rest.bytes, SHORTEN_IT),
         FilesFault::Run(ServeFault::Cut) => String::from_str(alloc, BLOCK_HAS_NO_END).map(Some),
-        FilesFault::Run(ServeFault::LineTooLong) => {
-            let placed = FileFault {
-                line: overlong_line(&rest.bytes),
-                fault: fault.cause(),
-            };
-            placed_text(alloc, rest.name, placed, &rest.bytes, SHORTEN_IT)
+        FilesFault::Run(_) => {
+            let is_of_words = fault == FilesFault::Run(ServeFault::NotText)
+                && offset_of_byte(&words.bytes).is_some();
+            let file = if is_of_words { words } else { rest };
+            let placed = place_in(&file.bytes, fault.cause());
+            placed_text(alloc, file.name, placed, &file.bytes, LineRole::Other)
         }
-        FilesFault::Run(ServeFault::NotText) => {
-            let file = match line_without_text(&words.bytes) {
-                Some(_) => words,
-                None => rest,
-            };
-            let placed = FileFault {
-                line: line_without_text(&file.bytes),
-                fault: fault.cause(),
-            };
-            placed_text(alloc, file.name, placed, &file.bytes, "")
-        }
-        FilesFault::Run(_) => Ok(None),
     }
 }
 
@@ -143,20 +110,14 @@ pub(crate) fn words_fault_text(
     words: &[u8],
     fault: LoadFault,
 ) -> FaultText {
+    if fault == LoadFault::Open(EditFault::Full) {
+        let mut shown = String::new(alloc);
+        push_named(&mut shown, name)?;
+        shown.push_str(": more than 100,000 words, which no vocabulary may have")?;
+        return Ok(Some(shown));
+    }
     let words = without_mark(words);
-    let line = match fault {
-        LoadFault::Input(ServeFault::NotText) => line_without_text(words),
-        LoadFault::Input(ServeFault::LineTooLong) => overlong_line(words),
-        LoadFault::Open(EditFault::WordTooLong) => long_line(words),
-        LoadFault::Open(EditFault::Full) => {
-            let mut shown = String::new(alloc);
-            push_named(&mut shown, name)?;
-            shown.push_str(": more than 100,000 words, which no vocabulary may have")?;
-            return Ok(Some(shown));
-        }
-        _ => None,
-    };
-    placed_text(alloc, name, FileFault { line, fault }, words, ONE_WORD)
+    placed_text(alloc, name, place_in(words, fault), words, LineRole::Word)
 }
 
 /// Returns what there is to say on the fault of a run over standard input. `input` are its first bytes, and lines are counted from its
@@ -168,33 +129,28 @@ pub(crate) fn input_fault_text(
     fault: LoadFault,
     rows: u64,
 ) -> FaultText {
-    let (line, advice) = match fault {
+    match fault {
         LoadFault::Input(ServeFault::Cut) => {
             return String::from_str(alloc, cut_text(wanted.verb, input)).map(Some);
         }
         LoadFault::Script(fault) => {
             return input_script_text(alloc, wanted.external.as_str(), input, fault);
         }
-        LoadFault::Input(ServeFault::NotText) => (line_without_text(input), ""),
-        LoadFault::Input(ServeFault::LineTooLong) => {
-            let line = overlong_line(input);
-            (line, advice_for(input, line.unwrap_or(0)))
-        }
-        LoadFault::Open(EditFault::WordTooLong) => (long_word_line(input), ""),
-        _ => return Ok(None),
-    };
-    let is_long_line = fault == LoadFault::Input(ServeFault::LineTooLong) && line.is_some();
-    if wanted.verb == Verb::Filter && !is_long_line {
+        _ => {}
+    }
+    let placed = place_in_input(input, fault);
+    let is_of_word = matches!(
+        fault,
+        LoadFault::Input(ServeFault::NotText | ServeFault::LineTooLong)
+            | LoadFault::Open(EditFault::WordTooLong)
+    );
+    let is_long_line = fault == LoadFault::Input(ServeFault::LineTooLong) && placed.line.is_some();
+    if wanted.verb == Verb::Filter && is_of_word && !is_long_line {
         let rows = count_and_word(alloc, rows, "row", "rows")?;
         return format!(in alloc; "  it is the word after {rows}").map(Some);
     }
-    placed_text(
-        alloc,
-        STANDARD_INPUT,
-        FileFault { line, fault },
-        input,
-        advice,
-    )
+    let role = role_in(input, placed.line.unwrap_or(0));
+    placed_text(alloc, STANDARD_INPUT, placed, input, role)
 }
 
 /// Returns the lines on a fault of the script at the beginning of an input.
@@ -206,24 +162,32 @@ fn input_script_text(alloc: Global, external: &str, input: &[u8], fault: ScriptF
     }
 }
 
-/// Returns the number of the first line of the words of an input that has too many characters for a word.
-fn long_word_line(input: &[u8]) -> Option<u64> {
-    let (before, words) = split_at_point(input)?;
-    let line = long_line(words)?;
-    Some(before.saturating_add(line))
+/// Returns a fault, and the first line of an input that may have it. A word is after the script.
+fn place_in_input(input: &[u8], fault: LoadFault) -> FileFault {
+    match (fault, split_at_point(input)) {
+        (LoadFault::Open(_), Some((before, words))) => FileFault {
+            line: match place_in(words, fault).line {
+                Some(line) => Some(before.saturating_add(line)),
+                None => None,
+            },
+            fault,
+        },
+        (LoadFault::Open(_), None) => FileFault { line: None, fault },
+        _ => place_in(input, fault),
+    }
 }
 
-/// Returns what to do with a line of an input that is too long.
-fn advice_for(input: &[u8], line: u64) -> &'static str {
+/// Returns what a line of an input is.
+fn role_in(input: &[u8], line: u64) -> LineRole {
     let Some((script_end, words)) = split_at_point(input) else {
-        return BREAK_IT;
+        return LineRole::Script;
     };
     if line < script_end {
-        return BREAK_IT;
+        return LineRole::Script;
     }
     match split_at_point(words) {
-        Some((words_end, _)) if script_end.saturating_add(words_end) < line => SHORTEN_IT,
-        _ => ONE_WORD,
+        Some((words_end, _)) if script_end.saturating_add(words_end) < line => LineRole::Other,
+        _ => LineRole::Word,
     }
 }
 

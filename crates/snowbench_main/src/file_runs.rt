@@ -1,55 +1,69 @@
 //! Runs over files.
 
 use crate::blocks::line_count;
+use crate::failures::{FAILED, Failure, REFUSED, count_and_word, plain, print_line, word_keys};
 use crate::fault_texts::files_fault_text;
-use crate::file_names::{FileNames, NamedFile, RunFiles, file_name, reads_twice};
-use crate::messages::{
-    FAILED, REFUSED, count_and_word, fail_memory, print_fault, print_line, word_keys,
+use crate::files::{
+    FileNames, NamedFile, RunFiles, file_name, open_named, read_file, read_files, reads_twice,
+    refuse_twice,
 };
-use crate::place_watch::PlaceWatch;
+use crate::places::PlaceWatch;
 use crate::progress_line::ProgressLine;
-use crate::reading::{open_named, read_file, read_files};
 use crate::standard_input::run_input;
 use crate::streams::Output;
 use snowbench::{
-    Device, FilesFault, Lines, Wanted, WordKeys, check_files, filter_file, run_files, stem_files,
+    Device, FilesFault, Lines, Progress, Wanted, WordKeys, check_files, filter_file, run_files,
+    stem_files,
 };
 use std::alloc::{AllocError, Global};
 use std::io::{Read, Stdout};
 
-/// Prints the fault of a run, and returns the exit status.
-pub(crate) fn fail_files(
-    rt: &HostRuntime,
+/// The line if `check` names standard input twice.
+const NAMED_TWICE_BY_CHECK: &str =
+    "snowbench: standard input can be only one of SCRIPT, WORDS and STEMS";
+
+/// The line if `check` has one file or two.
+const THREE_FILES: &str =
+    "snowbench: check takes three files, ./snowbench check SCRIPT WORDS STEMS, or all from standard input, ./snowbench check < INPUT";
+
+/// Returns the failure of a run over files.
+pub(crate) fn files_failure(
+    alloc: Global,
     wanted: &Wanted,
     files: &RunFiles<'_>,
     fault: FilesFault,
     is_closed: bool,
-) -> u8 {
-    let text = files_fault_text(rt.alloc(), wanted.external.as_str(), files, fault);
-    print_fault(rt, fault.cause(), is_closed, text, FAILED)
+) -> Failure {
+    let text = files_fault_text(alloc, wanted.external.as_str(), files, fault);
+    Failure::of_fault(fault.cause(), is_closed, text)
 }
 
-/// Runs the commands of a file over a script and words in files, and returns the exit status. Without a file of commands writes the rows.
-pub(crate) fn run_session(rt: &HostRuntime, wanted: &Wanted, names: FileNames<'_>) -> u8 {
-    let files = match read_files(rt, names, "commands") {
-        Ok(files) => files,
-        Err(status) => return status,
-    };
-    let Some(keys) = word_keys(rt) else {
-        return FAILED;
-    };
-    let Ok((result, output)) = answer_files(rt, wanted, keys, names.rest.is_some(), &files) else {
-        return fail_memory(rt);
-    };
-    match result {
-        Ok(()) if wanted.options.is_strict && output.has_refusal() => FAILED,
-        Ok(()) => 0,
-        Err(fault) => fail_files(rt, wanted, &files, fault, output.is_closed()),
+/// Returns the exit status after a session in which so many replies refused something.
+pub(crate) fn strict_status(wanted: &Wanted, refusals: u64) -> u8 {
+    if wanted.options.is_strict && refusals > 0 {
+        FAILED
+    } else {
+        0
     }
 }
 
-/// How a run has ended: its result, and what its output was.
-type Ended = (Result<(), FilesFault>, Output<Stdout>);
+/// Runs the commands of a file over a script and words in files, and returns the exit status. Without a file of commands writes the rows.
+pub(crate) fn run_session(
+    rt: &HostRuntime,
+    wanted: &Wanted,
+    names: FileNames<'_>,
+) -> Result<u8, Failure> {
+    let files = read_files(rt, names, "commands")?;
+    let keys = word_keys(rt)?;
+    let (result, output, refusals) = answer_files(rt, wanted, keys, names.rest.is_some(), &files)?;
+    match result {
+        Ok(()) => Ok(strict_status(wanted, refusals)),
+        Err(fault) => Err(files_failure(rt.alloc(), wanted, &files, fault, output.is_closed())),
+    }
+}
+
+/// How a run has ended: its result, what its output was, and how many replies refused something.
+type Ended = (Result<(), FilesFault>, Output<Stdout>, u64);
 
 /// Answers the commands over the bench of the files, or writes its rows.
 fn answer_files<'x>(
@@ -61,46 +75,45 @@ fn answer_files<'x>(
 ) -> Result<Ended, AllocError> {
     let input = files.input(wanted.external.as_str());
     let mut writer = Device::new(Output::new(rt.stdout()));
+    let mut watch = PlaceWatch::new(rt, wanted, files.rest.name, None);
     let result = if has_commands {
         let mut commands = Lines::new(rt.alloc(), Device::new(files.rest.bytes.as_slice()))?;
-        let mut watch = PlaceWatch::new(rt, wanted, files.rest.name, None);
         run_files(keys, &input, &mut commands, &mut writer, &mut watch)
     } else {
-        let mut progress = ProgressLine::new(rt, wanted.verb);
-        stem_files(rt.alloc(), keys, &input, &mut writer, &mut progress)
+        stem_files(rt.alloc(), keys, &input, &mut writer, &mut watch)
     };
-    Ok((result, writer.into_inner()))
+    watch.see_end();
+    Ok((result, writer.into_inner(), watch.refusals()))
 }
 
 /// Compares the stems of the words of a file with those of another, and returns the exit status. Prints how many differ.
-pub(crate) fn run_check(rt: &HostRuntime, wanted: &Wanted, names: FileNames<'_>) -> u8 {
-    let files = match read_files(rt, names, "stems") {
-        Ok(files) => files,
-        Err(status) => return status,
-    };
-    let (count, other) = (
-        line_count(&files.words.bytes),
-        line_count(&files.rest.bytes),
-    );
-    if count != other {
-        return print_line(rt, lengths_text(rt.alloc(), &files, count, other), REFUSED);
+pub(crate) fn run_check(
+    rt: &HostRuntime,
+    wanted: &Wanted,
+    names: FileNames<'_>,
+) -> Result<u8, Failure> {
+    if names.rest.is_none() {
+        return Err(Failure::Fixed(THREE_FILES, REFUSED));
     }
+    refuse_twice(names, NAMED_TWICE_BY_CHECK)?;
+    let files = read_files(rt, names, "stems")?;
+    let count = same_count(rt.alloc(), &files)?;
     let input = files.input(wanted.external.as_str());
     let mut writer = Device::new(Output::new(rt.stdout()));
     let mut progress = ProgressLine::new(rt, wanted.verb);
-    let checked = check_files(
-        rt.alloc(),
-        &input,
-        &files.rest.bytes,
-        &mut writer,
-        &mut progress,
-    );
+    let stems = &files.rest.bytes;
+    let checked = check_files(rt.alloc(), &input, stems, &mut writer, &mut progress);
+    progress.see_end();
     match checked {
         Ok(differences) => {
-            let status = if differences == 0 { 0 } else { FAILED };
-            print_line(rt, counts_text(rt.alloc(), count, differences), status)
+            let line = plain(counts_text(rt.alloc(), count, differences))?;
+            print_line(rt, line.as_str());
+            Ok(if differences == 0 { 0 } else { FAILED })
         }
-        Err(fault) => fail_files(rt, wanted, &files, fault, writer.into_inner().is_closed()),
+        Err(fault) => {
+            let is_closed = writer.into_inner().is_closed();
+            Err(files_failure(rt.alloc(), wanted, &files, fault, is_closed))
+        }
     }
 }
 
@@ -111,39 +124,38 @@ fn counts_text(alloc: Global, words: u64, differences: u64) -> Result<String, Al
     format!(in alloc; "{words}, {differences}")
 }
 
-/// Returns that two files have different numbers of lines.
-fn lengths_text(
-    alloc: Global,
-    files: &RunFiles<'_>,
-    count: u64,
-    other: u64,
-) -> Result<String, AllocError> {
+/// Returns how many lines each of the two lists has, if they have as many.
+fn same_count(alloc: Global, files: &RunFiles<'_>) -> Result<u64, Failure> {
+    let count = line_count(&files.words.bytes);
+    let other = line_count(&files.rest.bytes);
+    if count == other {
+        return Ok(count);
+    }
     let (words, stems) = (files.words.name, files.rest.name);
     let count = count_and_word(alloc, count, "line", "lines")?;
     let other = count_and_word(alloc, other, "line", "lines")?;
-    format!(in alloc;
+    let line = format!(in alloc;
         "snowbench: {words} has {count} and {stems} has {other}: each word needs its stem"
-    )
+    );
+    Err(Failure::of_line(line, REFUSED))
 }
 
 /// Writes the row of each word of a file, or of standard input, by the script of a file, as they come. Returns the exit status.
 /// With the name `-` for both, the script is at the beginning of standard input, and a line `.` may end the words.
-pub(crate) fn run_filter(rt: &HostRuntime, wanted: &Wanted, names: FileNames<'_>) -> u8 {
+pub(crate) fn run_filter(
+    rt: &HostRuntime,
+    wanted: &Wanted,
+    names: FileNames<'_>,
+) -> Result<u8, Failure> {
     if reads_twice(names) {
         return run_input(rt, wanted);
     }
-    let script = match read_file(rt, names.script, "lines of the script") {
-        Ok(script) => script,
-        Err(status) => return status,
-    };
+    let script = read_file(rt, names.script, "lines of the script")?;
     let name = file_name(names.words);
     if names.words == "-" {
         return filter_words(rt, wanted, script, name, rt.stdin());
     }
-    match open_named(rt, names.words) {
-        Ok(words) => filter_words(rt, wanted, script, name, words),
-        Err(status) => status,
-    }
+    filter_words(rt, wanted, script, name, open_named(rt, names.words)?)
 }
 
 /// Writes the row of each word, by this script. `name` is what the words are called. Returns the exit status.
@@ -153,14 +165,12 @@ fn filter_words<R: Read + Drop>(
     script: NamedFile<'_>,
     name: &str,
     words: R,
-) -> u8 {
-    let Ok(mut lines) = Lines::new(rt.alloc(), Device::new(words)) else {
-        return fail_memory(rt);
-    };
+) -> Result<u8, Failure> {
+    let mut lines = Lines::new(rt.alloc(), Device::new(words))?;
     let mut writer = Device::new(Output::new(rt.stdout()));
     let external = wanted.external.as_str();
     let Err(fault) = filter_file(external, &script.bytes, &mut lines, &mut writer) else {
-        return 0;
+        return Ok(0);
     };
     // What was read of the line with the fault. Without memory for it nothing is said of its encoding.
     let line = Vec::from_slice(rt.alloc(), lines.line()).unwrap_or(Vec::new(rt.alloc()));
@@ -175,5 +185,5 @@ fn filter_words<R: Read + Drop>(
         rest,
     };
     let is_closed = writer.into_inner().is_closed();
-    fail_files(rt, wanted, &files, fault, is_closed)
+    Err(files_failure(rt.alloc(), wanted, &files, fault, is_closed))
 }

@@ -1,20 +1,19 @@
 //! `run --as FORM`: the words and stems of files as a list.
 
-use crate::file_names::FileNames;
-use crate::file_runs::fail_files;
-use crate::messages::{FAILED, REFUSED, count_and_word, print_line, word_keys};
-use crate::reading::read_files;
+use crate::failures::{FAILED, Failure, REFUSED, count_and_word, plain, print_line, word_keys};
+use crate::file_runs::files_failure;
+use crate::files::{FileNames, read_files};
 use crate::streams::Output;
 use snowbench::{Device, ListForm, ListKind, Wanted, list_files};
 use std::alloc::{AllocError, Global};
 
-/// The text that is printed if there is no such form.
+/// The line if there is no such form.
 const NO_FORM: &str = "snowbench: --as takes synonym, override, tsv or stems";
 
-/// The text that is printed if `run` has a form and a file of commands.
+/// The line if `run` has a form and a file of commands.
 const NO_COMMANDS: &str = "snowbench: run with --as takes SCRIPT and WORDS, and no COMMANDS";
 
-/// The text that is printed if the stems are no list.
+/// The line if the stems are no list.
 const NO_STEMS: &str =
     "snowbench: nothing is written: a word is refused, or its stem is more than a line";
 
@@ -30,22 +29,20 @@ fn kind_of(form: &str) -> Option<ListKind> {
 }
 
 /// Writes the list of the words of a file, by the script of a file, and returns the exit status. Prints how many words have no line.
-pub(crate) fn run_list(rt: &HostRuntime, wanted: &Wanted, form: &str, names: FileNames<'_>) -> u8 {
+pub(crate) fn run_list(
+    rt: &HostRuntime,
+    wanted: &Wanted,
+    form: &str,
+    names: FileNames<'_>,
+) -> Result<u8, Failure> {
     let Some(kind) = kind_of(form) else {
-        let _ = eprintln!(rt; "{NO_FORM}");
-        return REFUSED;
+        return Err(Failure::Fixed(NO_FORM, REFUSED));
     };
     if names.rest.is_some() {
-        let _ = eprintln!(rt; "{NO_COMMANDS}");
-        return REFUSED;
+        return Err(Failure::Fixed(NO_COMMANDS, REFUSED));
     }
-    let files = match read_files(rt, names, "") {
-        Ok(files) => files,
-        Err(status) => return status,
-    };
-    let Some(keys) = word_keys(rt) else {
-        return FAILED;
-    };
+    let files = read_files(rt, names, "")?;
+    let keys = word_keys(rt)?;
     let input = files.input(wanted.external.as_str());
     let mut writer = Device::new(Output::new(rt.stdout()));
     let listed = list_files(rt.alloc(), kind, keys, &input, &mut writer);
@@ -54,15 +51,13 @@ pub(crate) fn run_list(rt: &HostRuntime, wanted: &Wanted, form: &str, names: Fil
         Ok(Some(words)) => {
             let left_out = (words as u64).saturating_sub(output.lines());
             if left_out > 0 {
-                return print_line(rt, left_out_text(rt.alloc(), left_out, form), 0);
+                let line = plain(left_out_text(rt.alloc(), left_out, form))?;
+                print_line(rt, line.as_str());
             }
-            0
+            Ok(0)
         }
-        Ok(None) => {
-            let _ = eprintln!(rt; "{NO_STEMS}");
-            FAILED
-        }
-        Err(fault) => fail_files(rt, wanted, &files, fault, output.is_closed()),
+        Ok(None) => Err(Failure::Fixed(NO_STEMS, FAILED)),
+        Err(fault) => Err(files_failure(rt.alloc(), wanted, &files, fault, output.is_closed())),
     }
 }
 

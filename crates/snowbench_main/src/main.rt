@@ -5,56 +5,54 @@ mod at_work;
 mod blocks;
 mod compared_words;
 mod comparisons;
+mod failures;
 mod fault_texts;
-mod file_names;
 mod file_runs;
+mod files;
 mod lists;
-mod messages;
-mod place_watch;
+mod places;
 mod progress_line;
-mod reading;
 mod standard_input;
 mod streams;
-mod work_places;
 
 use crate::at_work::start_work;
-use crate::comparisons::start_compare;
-use crate::file_names::{FileNames, reads_twice};
+use crate::comparisons::run_compare;
+use crate::failures::{Failure, REFUSED, plain, print_failure};
 use crate::file_runs::{run_check, run_filter, run_session};
+use crate::files::{FileNames, refuse_twice};
 use crate::lists::run_list;
-use crate::messages::{NO_MEMORY, REFUSED, fail_memory, print_text};
 use crate::standard_input::run_input;
 use clap::error::ErrorKind;
 use snowbench::{Verb, Wanted, read_words};
 use std::io;
 use std::process::ExitCode;
 
-/// The text that is printed if a word of the command line is not UTF-8.
+/// The line if a word of the command line is not UTF-8.
 const NOT_UTF8: &str = "error: a word of the command line is not UTF-8";
 
-/// The text that is printed if `run` names standard input twice.
+/// The line if `run` names standard input twice.
 const NAMED_TWICE: &str =
     "snowbench: standard input can be only one of SCRIPT, WORDS and COMMANDS. Without WORDS it is these";
 
-/// The text that is printed if `check` names standard input twice.
-const NAMED_TWICE_BY_CHECK: &str =
-    "snowbench: standard input can be only one of SCRIPT, WORDS and STEMS";
-
-/// The text that is printed if `check` has one file or two.
-const THREE_FILES: &str =
-    "snowbench: check takes three files, ./snowbench check SCRIPT WORDS STEMS, or all from standard input, ./snowbench check < INPUT";
-
 fn main(rt: HostRuntime) -> io::Result<ExitCode> {
-    let words = match words_of(&rt) {
+    Ok(ExitCode::from(start(&rt)))
+}
+
+/// Reads the command line, does what it asks for, and returns the exit status.
+fn start(rt: &HostRuntime) -> u8 {
+    let words = match words_of(rt) {
         Ok(words) => words,
-        Err(error) => return Ok(refuse_words(&rt, &error)),
+        Err(error) => return refuse_words(rt, &error),
     };
     match read_words(rt.alloc(), &words) {
-        Ok(wanted) => Ok(ExitCode::from(start(&rt, wanted))),
-        Err(error) if error.kind() == ErrorKind::OutOfMemory => {
-            Ok(ExitCode::from(fail_memory(&rt)))
+        Ok(wanted) => {
+            let verb = wanted.verb;
+            match run(rt, wanted) {
+                Ok(status) => status,
+                Err(failure) => print_failure(rt, verb, failure),
+            }
         }
-        Err(error) => Ok(ExitCode::from(refuse_line(&rt, &error))),
+        Err(error) => refuse_line(rt, &error),
     }
 }
 
@@ -64,27 +62,31 @@ fn words_of(rt: &HostRuntime) -> io::Result<Vec<String>> {
 }
 
 /// Prints why the words of the command line cannot be read, and returns the exit status.
-fn refuse_words(rt: &HostRuntime, error: &io::Error) -> ExitCode {
-    if error.kind() == io::ErrorKind::OutOfMemory {
-        let _ = eprintln!(rt; "{NO_MEMORY}");
-        return ExitCode::FAILURE;
-    }
-    let _ = eprintln!(rt; "{NOT_UTF8}");
-    ExitCode::from(REFUSED)
+fn refuse_words(rt: &HostRuntime, error: &io::Error) -> u8 {
+    let failure = match error.kind() {
+        io::ErrorKind::OutOfMemory => Failure::OutOfMemory,
+        _ => Failure::Fixed(NOT_UTF8, REFUSED),
+    };
+    print_failure(rt, Verb::Session, failure)
 }
 
-/// Prints why the command line is refused, and returns the exit status.
+/// Prints why the command line is refused, or its help, and returns the exit status.
 fn refuse_line(rt: &HostRuntime, error: &clap::Error) -> u8 {
-    print_text(rt, format!(in rt.alloc(); "{error}"), "", REFUSED)
+    match plain(format!(in rt.alloc(); "{error}")) {
+        Ok(text) if error.kind() != ErrorKind::OutOfMemory => {
+            let _ = eprint!(rt; "{text}");
+            REFUSED
+        }
+        _ => print_failure(rt, Verb::Session, Failure::OutOfMemory),
+    }
 }
 
 /// Does what the command line asks for, and returns the exit status.
-fn start(rt: &HostRuntime, wanted: Wanted) -> u8 {
-    if wanted.verb == Verb::Work {
-        return start_work(rt, wanted);
-    }
-    if wanted.verb == Verb::Compare {
-        return start_compare(rt, &wanted);
+fn run(rt: &HostRuntime, wanted: Wanted) -> Result<u8, Failure> {
+    match wanted.verb {
+        Verb::Work => return start_work(rt, wanted),
+        Verb::Compare => return run_compare(rt, &wanted),
+        _ => {}
     }
     match &wanted.options.script {
         None => run_input(rt, &wanted),
@@ -93,31 +95,24 @@ fn start(rt: &HostRuntime, wanted: Wanted) -> u8 {
 }
 
 /// Runs over files, and returns the exit status.
-fn run_files<'x>(rt: &HostRuntime, wanted: &'x Wanted, script: &'x str) -> u8 {
+fn run_files<'x>(rt: &HostRuntime, wanted: &'x Wanted, script: &'x str) -> Result<u8, Failure> {
     let options = &wanted.options;
-    let stems = text_in(&options.stems);
     let names = FileNames {
         script,
         words: text_in(&options.words).unwrap_or("-"),
-        rest: text_in(&options.commands).or(stems),
+        rest: text_in(&options.commands).or(text_in(&options.stems)),
     };
-    let twice = match wanted.verb {
-        Verb::Filter => return run_filter(rt, wanted, names),
-        Verb::Check if stems.is_none() => {
-            let _ = eprintln!(rt; "{THREE_FILES}");
-            return REFUSED;
-        }
-        Verb::Check => NAMED_TWICE_BY_CHECK,
-        _ => NAMED_TWICE,
-    };
-    if reads_twice(names) {
-        let _ = eprintln!(rt; "{twice}");
-        return REFUSED;
-    }
     match (wanted.verb, &options.form) {
+        (Verb::Filter, _) => run_filter(rt, wanted, names),
         (Verb::Check, _) => run_check(rt, wanted, names),
-        (_, Some(form)) => run_list(rt, wanted, form.as_str(), names),
-        (_, None) => run_session(rt, wanted, names),
+        (_, Some(form)) => {
+            refuse_twice(names, NAMED_TWICE)?;
+            run_list(rt, wanted, form.as_str(), names)
+        }
+        (_, None) => {
+            refuse_twice(names, NAMED_TWICE)?;
+            run_session(rt, wanted, names)
+        }
     }
 }
 

@@ -1,6 +1,6 @@
 //! How far a long run over words is, on standard error at a terminal.
 
-use crate::messages::count_and_word;
+use crate::failures::count_and_word;
 use sbl_bench::Progress;
 use snowbench::Verb;
 use std::alloc::AllocError;

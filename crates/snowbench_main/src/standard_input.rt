@@ -1,17 +1,18 @@
 //! Runs over standard input.
 
+use crate::failures::{FAILED, Failure, print_line, word_keys};
 use crate::fault_texts::{hint, input_fault_text};
-use crate::file_names::STANDARD_INPUT;
-use crate::messages::{FAILED, fail_memory, print_fault, word_keys};
-use crate::place_watch::PlaceWatch;
+use crate::file_runs::strict_status;
+use crate::places::PlaceWatch;
 use crate::streams::{FirstBytes, FirstBytesReader, Output};
-use snowbench::{Device, Lines, LoadFault, NoWatch, Wanted, WordKeys, answer};
+use sbl_diagnostics::STANDARD_INPUT;
+use snowbench::{Device, Lines, LoadFault, Progress, Wanted, WordKeys, answer};
 use std::alloc::AllocError;
 use std::cell::RefCell;
 use std::io::Stdout;
 
-/// How a run has ended: its result, and what its output was.
-type Ended = (Result<u64, LoadFault>, Output<Stdout>);
+/// How a run has ended: its result, what its output was, and how many replies refused something.
+type Ended = (Result<u64, LoadFault>, Output<Stdout>, u64);
 
 /// Runs what the command line asks for over standard input, and keeps its first bytes.
 fn answer_input(
@@ -23,48 +24,37 @@ fn answer_input(
     let reader = FirstBytesReader::new(rt.stdin(), kept);
     let mut lines = Lines::new(rt.alloc(), Device::new(reader))?;
     let mut writer = Device::new(Output::new(rt.stdout()));
-    let result = if wanted.options.shows_places {
-        let mut watch = PlaceWatch::new(rt, wanted, STANDARD_INPUT, Some(kept));
-        answer(wanted, keys, &mut lines, &mut writer, &mut watch)
-    } else {
-        answer(wanted, keys, &mut lines, &mut writer, &mut NoWatch {})
-    };
-    Ok((result, writer.into_inner()))
+    let mut watch = PlaceWatch::new(rt, wanted, STANDARD_INPUT, Some(kept));
+    let result = answer(wanted, keys, &mut lines, &mut writer, &mut watch);
+    watch.see_end();
+    Ok((result, writer.into_inner(), watch.refusals()))
 }
 
 /// Runs what the command line asks for over standard input, and returns the exit status.
-pub(crate) fn run_input(rt: &HostRuntime, wanted: &Wanted) -> u8 {
-    let Some(keys) = word_keys(rt) else {
-        return FAILED;
-    };
+pub(crate) fn run_input(rt: &HostRuntime, wanted: &Wanted) -> Result<u8, Failure> {
+    let keys = word_keys(rt)?;
     let kept = RefCell::new(FirstBytes::new(rt.alloc(), wanted.options.shows_places));
-    let Ok((result, output)) = answer_input(rt, wanted, keys, &kept) else {
-        return fail_memory(rt);
-    };
+    let (result, output, refusals) = answer_input(rt, wanted, keys, &kept)?;
     let kept = kept.into_inner();
     match result {
-        Ok(differences) => {
-            let status = if differences == 0 { 0 } else { FAILED };
-            if status == 0 && kept.is_whole() {
-                print_hint(rt, wanted, kept.bytes());
-            }
-            if wanted.options.is_strict && output.has_refusal() {
-                return FAILED;
-            }
-            status
+        Ok(0) => {
+            print_hint(rt, wanted, &kept);
+            Ok(strict_status(wanted, refusals))
         }
+        Ok(_) => Ok(FAILED),
         Err(fault) if wanted.options.shows_places => {
-            let rows = output.lines();
-            let text = input_fault_text(rt.alloc(), wanted, kept.bytes(), fault, rows);
-            print_fault(rt, fault, output.is_closed(), text, FAILED)
+            let text = input_fault_text(rt.alloc(), wanted, kept.bytes(), fault, output.lines());
+            Err(Failure::of_fault(fault, output.is_closed(), text))
         }
-        Err(fault) => print_fault(rt, fault, false, Ok(None), FAILED),
+        Err(fault) => Err(Failure::Fault(fault, None)),
     }
 }
 
 /// Prints a hint if the input is not read to its end.
-fn print_hint(rt: &HostRuntime, wanted: &Wanted, input: &[u8]) {
-    if let Some(text) = hint(wanted.verb, input) {
-        let _ = eprintln!(rt; "{text}");
+fn print_hint(rt: &HostRuntime, wanted: &Wanted, kept: &FirstBytes) {
+    if kept.is_whole() {
+        if let Some(line) = hint(wanted.verb, kept.bytes()) {
+            print_line(rt, line);
+        }
     }
 }
