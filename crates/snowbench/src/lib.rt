@@ -20,5 +20,5 @@ pub use sbl_input::{LoadFault, load, load_with_keys};
 pub use sbl_io::{Device, Lines, ServeFault, Sink, Source, Stop};
 pub use sbl_reports::ListForm;
 pub use sbl_script::ScriptFault;
-pub use sbl_sessions::{NoWatch, RefusedEdit, Watch, serve};
+pub use sbl_sessions::{NoWatch, RefusedEdit, Reply, Watch, serve};
 pub use script_files::{FileFault, FilesFault, FilesInput, long_line, overlong_line, script_text};

@@ -155,7 +155,8 @@ pub(crate) fn run_filter(
     if names.words == "-" {
         return filter_words(rt, wanted, script, name, rt.stdin());
     }
-    filter_words(rt, wanted, script, name, open_named(rt, names.words)?)
+    let words = open_named(rt, names.words)?;
+    filter_words(rt, wanted, script, name, words)
 }
 
 /// Writes the row of each word, by this script. `name` is what the words are called. Returns the exit status.

@@ -7,9 +7,9 @@ use crate::progress_line::ProgressLine;
 use crate::streams::FirstBytes;
 use sbl_bench::{Bench, EditFault, Progress};
 use sbl_diagnostics::{TypedBlock, fault_of, part_text, script_fault_text, whole_text};
-use sbl_sessions::{Reply, part_of};
+use sbl_sessions::part_of;
 use sbl_work::{Observer, Paths, RefusedSource};
-use snowbench::{RefusedEdit, Wanted, Watch};
+use snowbench::{RefusedEdit, Reply, Wanted, Watch};
 use std::alloc::Global;
 use std::cell::RefCell;
 
