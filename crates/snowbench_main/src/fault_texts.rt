@@ -141,7 +141,8 @@ pub(crate) fn input_fault_text(
     let placed = place_in_input(input, fault);
     let is_of_word = matches!(
         fault,
-        LoadFault::Input(ServeFault::NotText | ServeFault::LineTooLong)
+        LoadFault::Input(ServeFault::NotText)
+            | LoadFault::Input(ServeFault::LineTooLong)
             | LoadFault::Open(EditFault::WordTooLong)
     );
     let is_long_line = fault == LoadFault::Input(ServeFault::LineTooLong) && placed.line.is_some();
@@ -164,17 +165,17 @@ fn input_script_text(alloc: Global, external: &str, input: &[u8], fault: ScriptF
 
 /// Returns a fault, and the first line of an input that may have it. A word is after the script.
 fn place_in_input(input: &[u8], fault: LoadFault) -> FileFault {
-    match (fault, split_at_point(input)) {
-        (LoadFault::Open(_), Some((before, words))) => FileFault {
-            line: match place_in(words, fault).line {
-                Some(line) => Some(before.saturating_add(line)),
-                None => None,
-            },
-            fault,
+    let LoadFault::Open(_) = fault else {
+        return place_in(input, fault);
+    };
+    let line = match split_at_point(input) {
+        Some((before, words)) => match place_in(words, fault).line {
+            Some(line) => Some(before.saturating_add(line)),
+            None => None,
         },
-        (LoadFault::Open(_), None) => FileFault { line: None, fault },
-        _ => place_in(input, fault),
-    }
+        None => None,
+    };
+    FileFault { line, fault }
 }
 
 /// Returns what a line of an input is.

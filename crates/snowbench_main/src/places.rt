@@ -29,7 +29,7 @@ fn file_text(alloc: Global, path: &str, text: &[u8], external: &str) -> FaultTex
 }
 
 /// Returns the lines on the fault of a block that the line before it puts into a part, or else in the place of the whole script.
-fn block_text(alloc: Global, line: &str, typed: TypedBlock<'_>) -> FaultText {
+fn block_text<'x>(alloc: Global, line: &'x str, typed: TypedBlock<'x>) -> FaultText {
     match part_of(line) {
         Some(part) => part_text(alloc, typed, part),
         None => whole_text(alloc, typed),
