@@ -158,7 +158,7 @@ impl<'a> WorkPlaces<'a> {
     }
 
     /// Returns the lines on the fault of the block after a line.
-    fn text(&self, bench: &Bench, line: &str, block: &[u8]) -> FaultText {
+    fn text<'x>(&self, bench: &Bench, line: &'x str, block: &'x [u8]) -> FaultText {
         let alloc = self.rt.alloc();
         let script = bench.script().print(alloc)?;
         let typed = TypedBlock {
