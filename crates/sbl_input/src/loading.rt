@@ -76,7 +76,7 @@ fn ascii_characters(alloc: Global, line: &[u8]) -> Result<Vec<char>, LoadFault>
 {
     let mut word = Vec::with_capacity(alloc, line.len())?;
     for byte in line {
-        word.push(*byte as char)?;
+        word.push_reserved(*byte as char);
     }
     Ok(word)
 }

@@ -60,9 +60,14 @@ impl VocabularyRows {
         if word.is_empty() {
             return Ok(());
         }
-        if self.words.contains(word.as_slice()) {
-            return Ok(());
+        match self.words.insert(word) {
+            Err(_) => return Err(EditFault::OutOfMemory),
+            Ok(false) => return Ok(()),
+            Ok(true) => {}
         }
+        let Some(word) = self.words.last() else {
+            return Ok(());
+        };
         write_row(
             self.alloc,
             machine,
@@ -70,10 +75,7 @@ impl VocabularyRows {
             &mut self.records,
             word.as_slice(),
         )?;
-        match self.words.insert(word) {
-            Ok(_) => Ok(()),
-            Err(_) => Err(EditFault::OutOfMemory),
-        }
+        Ok(())
     }
 
     /// Appends words as `push` does, in their order.

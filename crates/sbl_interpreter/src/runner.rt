@@ -114,12 +114,6 @@ impl<'a, T: Tables> Runner<'a, T> {
                     next,
                     fail,
                     ..
-                }
-                | Instruction::Search {
-                    cost,
-                    next,
-                    fail,
-                    ..
                 } => {
                     pay_all(*cost, state)?;
                     at = if self.run_inner(at, state)? {
@@ -264,6 +258,20 @@ impl<'a, T: Tables> Runner<'a, T> {
                         fail
                     };
                 }
+                Instruction::Search {
+                    cost,
+                    among,
+                    site,
+                    next,
+                    fail,
+                } => {
+                    pay_all(*cost, state)?;
+                    at = if self.run_search_all(*among, site, state)? {
+                        next
+                    } else {
+                        fail
+                    };
+                }
             }
         }
     }
@@ -283,7 +291,6 @@ impl<'a, T: Tables> Runner<'a, T> {
             Instruction::Seek { past, body, .. } => self.run_tries(*past, body, state),
             Instruction::Backwards { body, .. } => self.run_backwards(body, state),
             Instruction::SetLimit { first, second, .. } => self.run_limited(first, second, state),
-            Instruction::Search { among, site, .. } => self.run_search_all(*among, site, state),
             _ => Ok(true),
         }
     }
