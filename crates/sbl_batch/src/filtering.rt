@@ -1,5 +1,6 @@
 //! Reads a script and words, and writes the rows of the words that it has before it asks for more input.
-ghost use Rattle.std.specs.Prelude.{◌≡◌, ◌≤◌, ◌⊎◌, [], None, IfErr, OnOk};
+ghost use Rattle.std.specs.Prelude.{◌≡◌, ◌≤◌, ◌⊎◌, [], None, IfErr, IfOk, OnOk};
+ghost use Rattle.std.specs.Str.{chars};
 ghost use Rattle.sbl_batch.specs.Filter.{Filters, IsFiltered, RepeatsFault};
 ghost use Rattle.sbl_batch.specs.HeldRows.{PushesRow, ReadsWordsOf};
 ghost use Rattle.sbl_batch.specs.LineWriter.{IsBetweenLines};
@@ -17,7 +18,30 @@ use sbl_input::{LoadFault, read_script};
 use sbl_io::{Lines, ServeFault, Sink, Source};
 use sbl_machine::{Machine, Meter, Table};
 use sbl_script::Script;
-use std::alloc::Global;
+use std::alloc::{AllocError, Global};
+
+/// Returns the characters of a word. Asks for memory once, and returns `AllocError` if that fails.
+fn characters_of(alloc: Global, word: &str) -> Result<Vec<char>, AllocError>
+    ensures { IfOk result (λ characters. characters.items ≡ chars word.now) }
+{
+    if word.is_ascii() {
+        return ascii_characters(alloc, word.as_bytes());
+    }
+    let mut characters = Vec::with_capacity(alloc, word.chars().count())?;
+    characters.extend(word.chars())?;
+    Ok(characters)
+}
+
+/// Returns the characters of a word that is ASCII. Returns `AllocError` if an allocation fails.
+fn ascii_characters(alloc: Global, word: &[u8]) -> Result<Vec<char>, AllocError>
+    ensures { IfOk result (λ characters. characters.items ≡ word.now) }
+{
+    let mut characters = Vec::with_capacity(alloc, word.len())?;
+    for byte in word {
+        characters.push_reserved(*byte as char);
+    }
+    Ok(characters)
+}
 
 /// Appends the row of the word in a line to the rows that are not written yet; an empty line has no row. Returns `NotText` if the line
 /// is not UTF-8, `WordTooLong` if it has more than 255 characters, and `OutOfMemory` if an allocation fails; the rows then stay.
@@ -35,7 +59,7 @@ pub(crate) fn filter_line(
     let Ok(word) = str::from_utf8(line) else {
         return Err(LoadFault::Input(ServeFault::NotText));
     };
-    let characters: Vec<char> = word.chars().collect(alloc)?;
+    let characters = characters_of(alloc, word)?;
     if characters.len() > MAX_WORD_LENGTH {
         return Err(LoadFault::Open(EditFault::WordTooLong));
     }

@@ -1,6 +1,8 @@
 //! The text of records, one line at a time.
-ghost use Rattle.std.specs.Prelude.{◌≡◌, ◌∷◌, ◌++◌, [], OnErr, OnOk};
+ghost use Rattle.std.specs.Prelude.{◌≡◌, ◌∷◌, ◌++◌, [], length, take, OnErr, OnOk};
+ghost use Rattle.csv.specs.Writing.{needs_byte, needs_quotes};
 ghost use Rattle.sbl_batch.specs.LineWriter.{IsBetweenLines};
+ghost use Rattle.sbl_io.specs.Records.{flexible};
 ghost use Rattle.sbl_io.specs.Records as texts;
 
 use csv::{Writer, WriterBuilder};
@@ -36,6 +38,9 @@ pub(crate) fn push_line<'f>(
     ensures stays { OnErr result (rows.new.items ≡ rows.old.items) }
     ensures between { OnOk result (IsBetweenLines lines.new) }
 {
+    if !is_quoted(word) && !is_quoted(kind) && !is_quoted(text) {
+        return push_plain(rows, word, kind, text);
+    }
     if MOST < lines.get_ref().len() {
         forget_lines(alloc, lines);
     }
@@ -45,6 +50,64 @@ pub(crate) fn push_line<'f>(
         return Err(AllocError);
     }
     rows.extend_from_slice(&lines.get_ref()[before..])
+}
+
+// Returns whether `csv` quotes a field.
+#[inline(always)]
+fn is_quoted(field: &[u8]) -> bool
+    ensures { result ≡ needs_quotes flexible field.now }
+{
+    let mut is_quoted = false;
+    for byte in field {
+        is_quoted |= is_special(*byte);
+    }
+    is_quoted
+}
+
+// Returns whether `csv` quotes a field with this byte.
+#[inline(always)]
+fn is_special(byte: u8) -> bool
+    ensures { result ≡ needs_byte flexible byte }
+{
+    byte == b',' || byte == b'"' || byte == b'\r' || byte == b'\n'
+}
+
+// Appends the text of a row whose fields are written as they are. Returns `AllocError` if an allocation fails; `rows` then stays.
+#[inline(always)]
+fn push_plain(
+    rows: &mut Vec<u8>,
+    word: &[u8],
+    kind: &[u8],
+    text: &[u8],
+) -> Result<(), AllocError>
+    ensures line { OnOk result (rows.new.items ≡ rows.old.items ++ (word.now ++ (44 ∷ (kind.now ++ (44 ∷ (text.now ++ (10 ∷ []))))))) }
+    ensures stays { OnErr result (rows.new.items ≡ rows.old.items) }
+{
+    let before = rows.len();
+    let appended = append_plain(rows, word, kind, text);
+    if appended.is_err() {
+        rows.truncate(before);
+    }
+    appended
+}
+
+// Does the same, but if an allocation fails, a part of the row may be there.
+#[inline(always)]
+fn append_plain(
+    rows: &mut Vec<u8>,
+    word: &[u8],
+    kind: &[u8],
+    text: &[u8],
+) -> Result<(), AllocError>
+    ensures line { OnOk result (rows.new.items ≡ rows.old.items ++ (word.now ++ (44 ∷ (kind.now ++ (44 ∷ (text.now ++ (10 ∷ []))))))) }
+    ensures prefix { take (length rows.old.items) rows.new.items ≡ rows.old.items }
+{
+    rows.extend_from_slice(word)?;
+    rows.push(b',')?;
+    rows.extend_from_slice(kind)?;
+    rows.push(b',')?;
+    rows.extend_from_slice(text)?;
+    rows.push(b'\n')
 }
 
 // Replaces the writer by one that has no line yet. A new writer is 8 KB on the stack, which the function that makes it clears. So

@@ -276,8 +276,8 @@ impl<'a, T: Tables> Runner<'a, T> {
         }
     }
 
-    /// Does what an instruction does that runs others, and returns its signal. Does nothing at any other, and returns t. A call is
-    /// in the loop: scripts make many.
+    /// Does what an instruction does that runs others, and returns its signal. Does nothing at any other, and returns t. The loop does
+    /// not come here for a call or a search: scripts make many.
     #[cycle(run)]
     #[inline(always)]
     fn run_inner(&self, at: &Instruction, state: &mut State) -> Result<bool, Halt>
@@ -291,6 +291,7 @@ impl<'a, T: Tables> Runner<'a, T> {
             Instruction::Seek { past, body, .. } => self.run_tries(*past, body, state),
             Instruction::Backwards { body, .. } => self.run_backwards(body, state),
             Instruction::SetLimit { first, second, .. } => self.run_limited(first, second, state),
+            Instruction::Search { among, site, .. } => self.run_search_all(*among, site, state),
             _ => Ok(true),
         }
     }
