@@ -8,3 +8,4 @@ pub mod OneFilter
 pub mod CompareFacts
 pub mod OneComparison
 pub mod OpenFacts
+pub mod LineFacts

@@ -107,7 +107,8 @@ fn append_plain(
     rows.extend_from_slice(kind)?;
     rows.push(b',')?;
     rows.extend_from_slice(text)?;
-    rows.push(b'\n')
+    rows.push(b'\n')?;
+    Ok(())
 }
 
 // Replaces the writer by one that has no line yet. A new writer is 8 KB on the stack, which the function that makes it clears. So

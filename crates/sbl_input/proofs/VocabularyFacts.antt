@@ -1,5 +1,8 @@
 -- What one more word does to a vocabulary and to the text of its rows.
-use Rattle.std.proofs.Common.{◌≡◌, ◌∙◌, ◌++◌, ℕ, true, false, List, [], ◌∷◌, length, Result, Ok, Err, map, refl, sym, ap, subst, nat_eq}
+use Rattle.std.proofs.Common.{◌≡◌, ◌∙◌, ◌++◌, ◌-◌, ℕ, Bool, true, false, true≢false, not, List, [], ◌∷◌, length, Option, Some, Result, Ok, Err, map, refl, sym, ap, subst, nat_eq, arith, length-append}
+use Rattle.std.specs.Prelude.{slice_get}
+use Rattle.std.specs.Option.{unwrap_or}
+use Rattle.indexmap.specs.IndexSet.{insert_key}
 use Rattle.std.specs.Str.{bytes_eq}
 use Rattle.std.specs.List.{list_any}
 use Rattle.std.specs.declared.vec.Vec.{Vec}
@@ -17,7 +20,18 @@ use Rattle.sbl_reports.specs.RowRecords.{row_fields}
 use Rattle.sbl_reports.specs.Listings.{stems_text}
 use Rattle.sbl_input.specs.VocabularyRows.{RowsOpen, text_of_rows}
 use Rattle.sbl_input.specs.WordLists.{OpensAs, texts_of}
-use Rattle.sbl_input.proofs.WordListFacts.{any_is_word, skips}
+use Rattle.sbl_input.proofs.WordListFacts.{any_is_word, insert-some, skips}
+
+abbrev same-text : Vec ℕ Global → Vec ℕ Global → Bool
+same-text x y = bytes_eq x.items y.items
+
+not-false : (b : Bool) → false ≡ not b → b ≡ true
+not-false true h = refl
+not-false false h = absurd (true≢false (sym h))
+
+not-true : (b : Bool) → true ≡ not b → b ≡ false
+not-true true h = absurd (true≢false h)
+not-true false h = refl
 
 -- whether a set has a word, which is not empty
 skipped-is : (keys : List (Vec ℕ Global)) (word : List ℕ) → nat_eq (length word) 0 ≡ false → is_skipped word (texts_of keys) ≡ list_any (λ k. bytes_eq word k.items) keys
@@ -30,6 +44,36 @@ repeat-skipped keys word some there = rw (skipped-is keys word some ∙ there) r
 -- a new word
 pub new-last : (keys : List (Vec ℕ Global)) (word : List ℕ) → nat_eq (length word) 0 ≡ false → list_any (λ k. bytes_eq word k.items) keys ≡ false → with_word (texts_of keys) word ≡ texts_of keys ++ word ∷ []
 new-last keys word some new = rw (skipped-is keys word some ∙ new) refl
+
+-- a set after a repeat, and after a new word
+pub set-same : (keys new : List (Vec ℕ Global)) (word : Vec ℕ Global) (added : Bool) → nat_eq (length word.items) 0 ≡ false
+    → new ≡ insert_key same-text keys word → added ≡ not (list_any (λ k. bytes_eq word.items k.items) keys) → added ≡ false → texts_of new ≡ texts_of keys
+set-same keys new word added some put test off =
+    ap texts_of put ∙ insert-some keys word some ∙ sym (repeat-skipped keys word.items some (not-false _ (sym off ∙ test)))
+
+last-new : (keys : List (Vec ℕ Global)) (word : Vec ℕ Global) → slice_get (keys ++ word ∷ []) (length (keys ++ word ∷ []) - 1) ≡ Some word
+last-new keys word = ap (slice_get (keys ++ word ∷ [])) one ∙ seam keys
+  where
+    one : length (keys ++ word ∷ []) - 1 ≡ length keys
+    one = omega (arith, length-append keys (word ∷ []))
+
+    seam : (xs : List (Vec ℕ Global)) → slice_get (xs ++ word ∷ []) (length xs) ≡ Some word
+    seam [] = refl
+    seam (x ∷ xs) = seam xs
+
+pub set-last : (keys new : List (Vec ℕ Global)) (word last : Vec ℕ Global) (added : Bool)
+    → new ≡ insert_key same-text keys word → added ≡ not (list_any (λ k. bytes_eq word.items k.items) keys) → added ≡ true
+    → Some last ≡ slice_get new (length new - 1) → last ≡ word
+set-last keys new word last added put test on at =
+    let absent : list_any (λ k. bytes_eq word.items k.items) keys ≡ false = not-true _ (sym on ∙ test) in
+    let grown : insert_key same-text keys word ≡ keys ++ word ∷ [] = rw absent refl in
+    let both : Some last ≡ Some word = at ∙ ap (λ (ks : List (Vec ℕ Global)). slice_get ks (length ks - 1)) (put ∙ grown) ∙ last-new keys word in
+    ap (λ (o : Option (Vec ℕ Global)). unwrap_or o word) both
+
+pub set-new : (keys new : List (Vec ℕ Global)) (word : Vec ℕ Global) (added : Bool) → nat_eq (length word.items) 0 ≡ false
+    → new ≡ insert_key same-text keys word → added ≡ not (list_any (λ k. bytes_eq word.items k.items) keys) → added ≡ true
+    → texts_of new ≡ texts_of keys ++ word.items ∷ []
+set-new keys new word added some put test on = ap texts_of put ∙ insert-some keys word some ∙ new-last keys word.items some (not-true _ (sym on ∙ test))
 
 -- one more row
 pub rows-more : (s : Source) (words : List (List ℕ)) (w : List ℕ) → text_of_rows s words ++ record_line (row_fields (row_of (under s default_limit) w)) ≡ text_of_rows s (words ++ w ∷ [])

@@ -16,16 +16,15 @@ use Rattle.sbl_semantics.specs.Fitting.{first}
 use Rattle.sbl_code.specs.Flow.{flow, alone}
 use Rattle.sbl_interpreter.proofs.runner.Runner.+run.Goals as goal
 
-pub run_search-loop-place-init : goal.run_search-loop-place-init
-run_search-loop-place-init g t c =
+pub run_found-loop-place-init : goal.run_found-loop-place-init
+run_found-loop-place-init g t c =
     let T = g.T.Tables.listed c.args.self.now.tables.now c.args.table in
     let s = c.args.state.now in
     let fits = fits_at T s.text s.cursor (bound_in c.args.self.now.mode s) in
-    let e = ap (λ x. first (fits_at T x c.place.result c.bound.result)) c.text.ensures ∙ ap (λ x. first (fits_at T s.text x c.bound.result)) c.place.ensures.value ∙ ap (λ x. first (fits_at T s.text s.cursor x)) c.bound.ensures.value in
-    ([], fits, refl, c.longest-place.ensures ∙ e, refl, omega arith)
+    ([], fits, refl, c.requires, refl, omega arith)
 
-pub run_search-loop-place-preserved : goal.run_search-loop-place-preserved
-run_search-loop-place-preserved g t c =
+pub run_found-loop-place-preserved : goal.run_found-loop-place-preserved
+run_found-loop-place-preserved g t c =
     let inv = c.loop-place.invariant in
     let s0 = c.args.state.now in
     let es = c.args.entries.now in
@@ -38,8 +37,8 @@ run_search-loop-place-preserved g t c =
     let steps : c.try_string.new.state.steps ≤ s0.steps = omega (arith, c.in-Ok-false.ensures.no_more, inv.5) in
     (inv.0 ++ (i ∷ []), o.0, cut ∙ sym (append_assoc inv.0 (i ∷ []) o.0), c.next_shorter-place.ensures s0.text s0.cursor (bound_in c.args.self.now.mode s0) inv.0 o.0 cut, sym (rw b at (c.in-Ok-false.ensures.tried s0 follow c.saved_cursor-from.ensures.value)) ∙ sym o.2 ∙ inv.4, steps)
 
-pub run_search-returns-in-Err-clause-follows : goal.run_search-returns-in-Err-clause-follows
-run_search-returns-in-Err-clause-follows g t c =
+pub run_found-returns-in-Err-clause-follows : goal.run_found-returns-in-Err-clause-follows
+run_found-returns-in-Err-clause-follows g t c =
     let inv = c.loop-place.invariant in
     let s0 = c.args.state.now in
     let es = c.args.entries.now in
@@ -48,8 +47,8 @@ run_search-returns-in-Err-clause-follows g t c =
     let follow = tries call c.args.among es c.args.self.now.mode s0 o.0 in
     tries_halt c.in-Err.halt c.try_string.new.state (try_one call c.args.among (slice_get es c.in-Some.i) c.args.self.now.mode s0 c.loop-place.state follow) (follow c.try_string.new.state) _ (c.in-Err.ensures.tried s0 follow c.saved_cursor-from.ensures.value) (sym o.2 ∙ inv.4)
 
-pub run_search-returns-in-Ok-true-clause-follows : goal.run_search-returns-in-Ok-true-clause-follows
-run_search-returns-in-Ok-true-clause-follows g t c =
+pub run_found-returns-in-Ok-true-clause-follows : goal.run_found-returns-in-Ok-true-clause-follows
+run_found-returns-in-Ok-true-clause-follows g t c =
     let inv = c.loop-place.invariant in
     let s0 = c.args.state.now in
     let es = c.args.entries.now in
