@@ -1,5 +1,5 @@
 //! The text of records, one line at a time.
-ghost use Rattle.std.specs.Prelude.{◌≡◌, ◌∷◌, ◌++◌, [], length, take, OnErr, OnOk};
+ghost use Rattle.std.specs.Prelude.{◌≡◌, ◌∷◌, ◌++◌, [], false, length, take, IsTrue, OnErr, OnOk};
 ghost use Rattle.csv.specs.Writing.{needs_byte, needs_quotes};
 ghost use Rattle.sbl_batch.specs.LineWriter.{IsBetweenLines};
 ghost use Rattle.sbl_io.specs.Records.{flexible};
@@ -38,7 +38,7 @@ pub(crate) fn push_line<'f>(
     ensures stays { OnErr result (rows.new.items ≡ rows.old.items) }
     ensures between { OnOk result (IsBetweenLines lines.new) }
 {
-    if !is_quoted(word) && !is_quoted(kind) && !is_quoted(text) {
+    if are_plain(word, kind, text) {
         return push_plain(rows, word, kind, text);
     }
     if MOST < lines.get_ref().len() {
@@ -50,6 +50,14 @@ pub(crate) fn push_line<'f>(
         return Err(AllocError);
     }
     rows.extend_from_slice(&lines.get_ref()[before..])
+}
+
+// Returns whether `csv` writes these fields as they are.
+#[inline(always)]
+fn are_plain(word: &[u8], kind: &[u8], text: &[u8]) -> bool
+    ensures { IsTrue result → (needs_quotes flexible word.now ≡ false) × (needs_quotes flexible kind.now ≡ false) × (needs_quotes flexible text.now ≡ false) }
+{
+    !is_quoted(word) && !is_quoted(kind) && !is_quoted(text)
 }
 
 // Returns whether `csv` quotes a field.

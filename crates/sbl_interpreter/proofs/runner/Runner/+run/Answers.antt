@@ -43,6 +43,12 @@ run_from-loop-at-preserved-then-branch-3 = choices.run_from-loop-at-preserved-th
 pub run_from-loop-at-preserved-else-branch-3 : goal.run_from-loop-at-preserved-else-branch-3
 run_from-loop-at-preserved-else-branch-3 = choices.run_from-loop-at-preserved-else-branch-3
 
+pub run_search-run_found-requires : goal.run_search-run_found-requires
+run_search-run_found-requires = calls.run_search-run_found-requires
+
+pub run_search-returns-in-None-clause-follows : goal.run_search-returns-in-None-clause-follows
+run_search-returns-in-None-clause-follows = calls.run_search-returns-in-None-clause-follows
+
 pub run_found-loop-place-init : goal.run_found-loop-place-init
 run_found-loop-place-init = calls.run_found-loop-place-init
 

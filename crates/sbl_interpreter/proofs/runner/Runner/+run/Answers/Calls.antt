@@ -1,5 +1,5 @@
 -- What instructions call: turns, searches and calls.
-use Rattle.std.proofs.Common.{◌≡◌, true, false, Ok, Err, refl, ◌<◌, [], ◌∷◌, ◌++◌, ◌≤◌, sym, ap, ◌∙◌, arith, rules, append_assoc}
+use Rattle.std.proofs.Common.{◌≡◌, ℕ, List, None, true, false, Ok, Err, refl, ◌<◌, [], ◌∷◌, ◌++◌, ◌≤◌, sym, ap, ◌∙◌, arith, rules, append_assoc}
 use Rattle.std.specs.Prelude.{slice_get, ◌-◌}
 use Rattle.sbl_run_state.specs.Endings.{Follows}
 use Rattle.sbl_program.proofs.Arms.{one_more, one_time, time_stops, calls_routine, leave_signals}
@@ -15,6 +15,30 @@ use Rattle.sbl_program.specs.Listing.{fits_at}
 use Rattle.sbl_semantics.specs.Fitting.{first}
 use Rattle.sbl_code.specs.Flow.{flow, alone}
 use Rattle.sbl_interpreter.proofs.runner.Runner.+run.Goals as goal
+
+-- the strings that match, and the longest of them
+none-fits : (fits : List ℕ) → None ≡ first fits → fits ≡ []
+none-fits [] h = refl
+none-fits (i ∷ is) h = cc
+
+pub run_search-run_found-requires : goal.run_search-run_found-requires
+run_search-run_found-requires g t c =
+    let T = g.T.Tables.listed c.args.self.now.tables.now c.args.table in
+    let s = c.args.state.now in
+    let e = ap (λ x. first (fits_at T x c.place.result c.bound.result)) c.text.ensures ∙ ap (λ x. first (fits_at T s.text x c.bound.result)) c.place.ensures.value ∙ ap (λ x. first (fits_at T s.text s.cursor x)) c.bound.ensures.value in
+    sym c.in-Some.is ∙ c.longest-found.ensures ∙ e
+
+pub run_search-returns-in-None-clause-follows : goal.run_search-returns-in-None-clause-follows
+run_search-returns-in-None-clause-follows g t c =
+    let T = g.T.Tables.listed c.args.self.now.tables.now c.args.table in
+    let s = c.args.state.now in
+    let es = c.args.entries.now in
+    let m = c.args.self.now.mode in
+    let call = calls (program_of (g.T.Tables.listed c.args.self.now.tables.now) c.args.self.now.code.now) c.args.self.now.levels in
+    let e = ap (λ x. first (fits_at T x c.place.result c.bound.result)) c.text.ensures ∙ ap (λ x. first (fits_at T s.text x c.bound.result)) c.place.ensures.value ∙ ap (λ x. first (fits_at T s.text s.cursor x)) c.bound.ensures.value in
+    let fits = fits_at T s.text s.cursor (bound_in m s) in
+    let none = none-fits fits (sym c.in-None.is ∙ c.longest-found.ensures ∙ e) in
+    ap (λ is. tries call c.args.among es m s is s) none ∙ ap (Signals false) (sym c.in_ok-take_none-in-None.ensures)
 
 pub run_found-loop-place-init : goal.run_found-loop-place-init
 run_found-loop-place-init g t c =
