@@ -1,5 +1,7 @@
 -- The text of a row whose fields are written as they are.
-use Rattle.std.proofs.Common.{◌≡◌, ◌∙◌, ◌++◌, ◌∷◌, [], ℕ, Bool, false, List, ap, append_assoc, refl, sym}
+use Rattle.std.proofs.Common.{◌≡◌, ◌≤◌, ◌∙◌, ◌++◌, ◌∷◌, [], ℕ, Bool, false, List, ap, append_assoc, arith, length, refl, sym, take}
+use Rattle.std.proofs.Math.Seq.{take-length}
+use Rattle.std.proofs.lemmas.List.{length-take, take-append-le}
 use Rattle.std.specs.Prelude.{if◌then◌else◌}
 use Rattle.csv.specs.Writing.{field_text, fields_text, is_blank, needs_quotes, quoted}
 use Rattle.sbl_io.specs.Records.{flexible, record_line}
@@ -39,3 +41,19 @@ parts-line rows a b c =
     let r4 = r3 ++ (44 ∷ []) in
     append_assoc r4 c (10 ∷ []) ∙ append_assoc r3 (44 ∷ []) (c ++ (10 ∷ [])) ∙ append_assoc r2 b (44 ∷ (c ++ (10 ∷ [])))
     ∙ append_assoc r1 (44 ∷ []) (b ++ (44 ∷ (c ++ (10 ∷ [])))) ∙ append_assoc rows a (44 ∷ (b ++ (44 ∷ (c ++ (10 ∷ [])))))
+
+-- rows that were there stay while more is appended
+pub none-appended : (rows new : List ℕ) → new ≡ rows → take (length rows) new ≡ rows
+none-appended rows new same = ap (take (length rows)) same ∙ take-length rows
+
+pub more-appended : (rows old more new : List ℕ) → take (length rows) old ≡ rows → new ≡ old ++ more → take (length rows) new ≡ rows
+more-appended rows old more new kept put =
+    let inside : length rows ≤ length old = omega (arith, sym (length-take (length rows) old), ap length kept) in
+    ap (take (length rows)) put ∙ take-append-le (length rows) old more inside ∙ kept
+
+pub line-appended : (rows a b c r1 r2 r3 r4 r5 new : List ℕ) → r1 ≡ rows ++ a → r2 ≡ r1 ++ (44 ∷ []) → r3 ≡ r2 ++ b → r4 ≡ r3 ++ (44 ∷ []) → r5 ≡ r4 ++ c → new ≡ r5 ++ (10 ∷ [])
+    → new ≡ rows ++ (a ++ (44 ∷ (b ++ (44 ∷ (c ++ (10 ∷ []))))))
+line-appended rows a b c r1 r2 r3 r4 r5 new e1 e2 e3 e4 e5 e6 =
+    let comma = λ (l : List ℕ). l ++ (44 ∷ []) in
+    e6 ∙ ap (λ (l : List ℕ). l ++ (10 ∷ [])) (e5 ∙ ap (λ (l : List ℕ). l ++ c) (e4 ∙ ap comma (e3 ∙ ap (λ (l : List ℕ). l ++ b) (e2 ∙ ap comma e1))))
+    ∙ parts-line rows a b c
