@@ -21,7 +21,7 @@ use Rattle.sbl_code.specs.declared.instruction.Instruction.TheVariants.{Nested, 
 use Rattle.sbl_code.specs.declared.instruction.Instruction.TheViews.{the_lemmas}
 use Rattle.sbl_code.specs.Flow.{Flow, flow, alone, loop_of, at_least_of, seek_of, backwards_of, limited_of}
 use Rattle.sbl_interpreter.specs.Inner.{inner_of}
-use Rattle.sbl_code.proofs.Instructions.{flow_nested, flow_loop, flow_at_least, flow_seek, flow_backwards, flow_set_limit, flow_search}
+use Rattle.sbl_code.proofs.Instructions.{flow_nested, flow_loop, flow_at_least, flow_seek, flow_backwards, flow_set_limit}
 use Rattle.sbl_interpreter.proofs.Flows.{IsPaid, after_paid}
 
 -- the steps of a cost and the command's own are not left
