@@ -17,14 +17,14 @@ line-body a b c =
     append_assoc a (44 ∷ (b ++ (44 ∷ (c ++ [])))) (10 ∷ [])
     ∙ ap (λ (t : List ℕ). a ++ (44 ∷ t)) (append_assoc b (44 ∷ (c ++ [])) (10 ∷ []) ∙ ap (λ (t : List ℕ). b ++ (44 ∷ t)) (append_assoc c [] (10 ∷ [])))
 
-written : (a b c : List ℕ) → record_line (a ∷ b ∷ c ∷ []) ≡ body (field_text flexible a) (field_text flexible b) (field_text flexible c)
+record-body : (a b c : List ℕ) → record_line (a ∷ b ∷ c ∷ []) ≡ body (field_text flexible a) (field_text flexible b) (field_text flexible c)
 unfolding fields_text is_blank
-written a b c = refl
+record-body a b c = refl
 
 pub plain-line : (a b c : List ℕ) → needs_quotes flexible a ≡ false → needs_quotes flexible b ≡ false → needs_quotes flexible c ≡ false
     → a ++ (44 ∷ (b ++ (44 ∷ (c ++ (10 ∷ []))))) ≡ record_line (a ∷ b ∷ c ∷ [])
 plain-line a b c first second third =
-    sym (written a b c
+    sym (record-body a b c
     ∙ ap (λ (t : List ℕ). body t (field_text flexible b) (field_text flexible c)) (plain-field a first)
     ∙ ap (λ (t : List ℕ). body a t (field_text flexible c)) (plain-field b second)
     ∙ ap (λ (t : List ℕ). body a b t) (plain-field c third)

@@ -82,12 +82,7 @@ fn is_special(byte: u8) -> bool
 
 // Appends the text of a row whose fields are written as they are. Returns `AllocError` if an allocation fails; `rows` then stays.
 #[inline(always)]
-fn push_plain(
-    rows: &mut Vec<u8>,
-    word: &[u8],
-    kind: &[u8],
-    text: &[u8],
-) -> Result<(), AllocError>
+fn push_plain(rows: &mut Vec<u8>, word: &[u8], kind: &[u8], text: &[u8]) -> Result<(), AllocError>
     ensures line { OnOk result (rows.new.items ≡ rows.old.items ++ (word.now ++ (44 ∷ (kind.now ++ (44 ∷ (text.now ++ (10 ∷ []))))))) }
     ensures stays { OnErr result (rows.new.items ≡ rows.old.items) }
 {
@@ -101,12 +96,7 @@ fn push_plain(
 
 // Does the same, but if an allocation fails, a part of the row may be there.
 #[inline(always)]
-fn append_plain(
-    rows: &mut Vec<u8>,
-    word: &[u8],
-    kind: &[u8],
-    text: &[u8],
-) -> Result<(), AllocError>
+fn append_plain(rows: &mut Vec<u8>, word: &[u8], kind: &[u8], text: &[u8]) -> Result<(), AllocError>
     ensures line { OnOk result (rows.new.items ≡ rows.old.items ++ (word.now ++ (44 ∷ (kind.now ++ (44 ∷ (text.now ++ (10 ∷ []))))))) }
     ensures prefix { take (length rows.old.items) rows.new.items ≡ rows.old.items }
 {
