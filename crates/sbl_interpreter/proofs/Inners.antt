@@ -21,7 +21,7 @@ use Rattle.sbl_code.specs.declared.instruction.Instruction.TheVariants.{Nested, 
 use Rattle.sbl_code.specs.declared.instruction.Instruction.TheViews.{the_lemmas}
 use Rattle.sbl_code.specs.Flow.{Flow, flow, alone, loop_of, at_least_of, seek_of, backwards_of, limited_of}
 use Rattle.sbl_interpreter.specs.Inner.{inner_of}
-use Rattle.sbl_code.proofs.Instructions.{flow_nested, flow_loop, flow_at_least, flow_seek, flow_backwards, flow_set_limit}
+use Rattle.sbl_code.proofs.Instructions.{flow_nested, flow_loop, flow_at_least, flow_seek, flow_backwards, flow_set_limit, flow_search}
 use Rattle.sbl_interpreter.proofs.Flows.{IsPaid, after_paid}
 
 -- the steps of a cost and the command's own are not left
@@ -70,7 +70,8 @@ module _ (p : programs.Program) (levels : ℕ) (tables : ℕ → Listing) where
         (((count : Box Arithmetic Global) × (body : I) × (at ≡ AtLeast cost count body next fail)) ⊎
         (((past : Bool) × (body : I) × (at ≡ Seek cost past body next fail)) ⊎
         (((body : I) × (at ≡ Backwards cost body next fail)) ⊎
-        ((first : I) × (second : I) × (at ≡ SetLimit cost first second next fail))))))
+        (((first : I) × (second : I) × (at ≡ SetLimit cost first second next fail)) ⊎
+        (((among : ℕ) × (site : Box SearchSite Global) × (at ≡ Search cost among site next fail))))))))
 
     abbrev Flows : ℕ → I → I → Type 0
     Flows cost next fail = F at m slots s ≡ then_on (pays cost s) (λ v. after (pay_first (D at) m v) (F next.value m slots) (F fail.value m slots))
@@ -87,7 +88,8 @@ module _ (p : programs.Program) (levels : ℕ) (tables : ℕ → Listing) where
     inner_flows cost next fail (inr (inr (inl x))) = flows_as cost next fail (AtLeast cost x.0 x.1 next fail) (at_least_of (view_number x.0.value) (alone (F x.1.value))) x.2 (does_at_least cost x.0 x.1 next fail) (flow_at_least p levels tables m slots s cost x.0 x.1 next fail)
     inner_flows cost next fail (inr (inr (inr (inl x)))) = flows_as cost next fail (Seek cost x.0 x.1 next fail) (seek_of x.0 (alone (F x.1.value))) x.2 (does_seek cost x.0 x.1 next fail) (flow_seek p levels tables m slots s cost x.0 x.1 next fail)
     inner_flows cost next fail (inr (inr (inr (inr (inl x))))) = flows_as cost next fail (Backwards cost x.0 next fail) (backwards_of (alone (F x.0.value))) x.1 (does_backwards cost x.0 next fail) (flow_backwards p levels tables m slots s cost x.0 next fail)
-    inner_flows cost next fail (inr (inr (inr (inr (inr x))))) = flows_as cost next fail (SetLimit cost x.0 x.1 next fail) (limited_of (alone (F x.0.value)) (alone (F x.1.value))) x.2 (does_set_limit cost x.0 x.1 next fail) (flow_set_limit p levels tables m slots s cost x.0 x.1 next fail)
+    inner_flows cost next fail (inr (inr (inr (inr (inr (inl x)))))) = flows_as cost next fail (SetLimit cost x.0 x.1 next fail) (limited_of (alone (F x.0.value)) (alone (F x.1.value))) x.2 (does_set_limit cost x.0 x.1 next fail) (flow_set_limit p levels tables m slots s cost x.0 x.1 next fail)
+    inner_flows cost next fail (inr (inr (inr (inr (inr (inr x)))))) = flows_as cost next fail (Search cost x.0 x.1 next fail) (search_all (calls p levels) x.0 x.1.value.entries.items (tables x.1.value.table)) x.2 (does_search cost x.0 x.1 next fail) (flow_search p levels tables m slots s cost x.0 x.1 next fail)
 
     pub has_exits : (cost : ℕ) (next fail : I) (u : State) → IsInner cost next fail → IsPaid cost s u → F at m slots s ≡ after (D at m u) (F next.value m slots) (F fail.value m slots)
     has_exits cost next fail u is h = inner_flows cost next fail is ∙ after_paid cost s u (D at m) (F next.value m slots) (F fail.value m slots) h

@@ -114,6 +114,12 @@ impl<'a, T: Tables> Runner<'a, T> {
                     next,
                     fail,
                     ..
+                }
+                | Instruction::Search {
+                    cost,
+                    next,
+                    fail,
+                    ..
                 } => {
                     pay_all(*cost, state)?;
                     at = if self.run_inner(at, state)? {
@@ -258,26 +264,12 @@ impl<'a, T: Tables> Runner<'a, T> {
                         fail
                     };
                 }
-                Instruction::Search {
-                    cost,
-                    among,
-                    site,
-                    next,
-                    fail,
-                } => {
-                    pay_all(*cost, state)?;
-                    at = if self.run_search_all(*among, site, state)? {
-                        next
-                    } else {
-                        fail
-                    };
-                }
             }
         }
     }
 
-    /// Does what an instruction does that runs others, and returns its signal. Does nothing at any other, and returns t. The loop does
-    /// not come here for a call or a search: scripts make many.
+    /// Does what an instruction does that runs others, and returns its signal. Does nothing at any other, and returns t. A call is
+    /// in the loop: scripts make many.
     #[cycle(run)]
     #[inline(always)]
     fn run_inner(&self, at: &Instruction, state: &mut State) -> Result<bool, Halt>

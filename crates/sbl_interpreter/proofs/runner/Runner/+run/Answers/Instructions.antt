@@ -91,8 +91,8 @@ run_from-returns-in_err-run_inner-in-Nested-clause-follows g t c =
     let r : c.from_residual-in_err-run_inner-in-Nested.result ≡ Err halt = search rules in
     ends_early _ halt new _ d f e r whole c.in_err-run_inner-in-Nested.ensures.follows
 
-pub run_from-loop-at-preserved-then-branch-6 : goal.run_from-loop-at-preserved-then-branch-6
-run_from-loop-at-preserved-then-branch-6 g t c =
+pub run_from-loop-at-preserved-then-branch-5 : goal.run_from-loop-at-preserved-then-branch-5
+run_from-loop-at-preserved-then-branch-5 g t c =
     let T = g.T.Tables.listed c.args.self.now.tables.now in
     let P = program_of T c.args.self.now.code.now in
     let levels = c.args.self.now.levels in
@@ -108,12 +108,12 @@ run_from-loop-at-preserved-then-branch-6 g t c =
     let new = c.run_inner.new.state in
     let d = inner_of P levels T at m u in
     let whole = sym inv.0 ∙ has_exits P levels T m slots s at a.cost a.next a.fail u a.is c.in_ok-pay_all-in-Nested.ensures.leads in
-    let b : c.in_ok-run_inner-in-Nested.field-0 ≡ true = c.if-branch-6.true in
+    let b : c.in_ok-run_inner-in-Nested.field-0 ≡ true = c.if-branch-5.true in
     let h = whole ∙ ap (λ r. after r f e) (c.in_ok-run_inner-in-Nested.ensures.follows ∙ ap (λ v. Signals v new) b) in
     let no_more : new.steps ≤ u.steps = c.in_ok-run_inner-in-Nested.ensures.no_more in
     let fewer : u.steps < s.steps = c.in_ok-pay_all-in-Nested.ensures.fewer in
     let steps : new.steps ≤ c.args.state.now.steps = omega (arith, no_more, fewer, inv.1) in
-    (ap (λ x. flow P levels T x m slots new) c.deref-at-then-branch-6.ensures ∙ sym h, steps)
+    (ap (λ x. flow P levels T x m slots new) c.deref-at-then-branch-5.ensures ∙ sym h, steps)
 
 pub run_from-loop-at-preserved : goal.run_from-loop-at-preserved
 run_from-loop-at-preserved g t c =
@@ -132,9 +132,9 @@ run_from-loop-at-preserved g t c =
     let new = c.run_inner.new.state in
     let d = inner_of P levels T at m u in
     let whole = sym inv.0 ∙ has_exits P levels T m slots s at a.cost a.next a.fail u a.is c.in_ok-pay_all-in-Nested.ensures.leads in
-    let b : c.in_ok-run_inner-in-Nested.field-0 ≡ false = c.if-branch-6.false in
+    let b : c.in_ok-run_inner-in-Nested.field-0 ≡ false = c.if-branch-5.false in
     let h = whole ∙ ap (λ r. after r f e) (c.in_ok-run_inner-in-Nested.ensures.follows ∙ ap (λ v. Signals v new) b) in
     let no_more : new.steps ≤ u.steps = c.in_ok-run_inner-in-Nested.ensures.no_more in
     let fewer : u.steps < s.steps = c.in_ok-pay_all-in-Nested.ensures.fewer in
     let steps : new.steps ≤ c.args.state.now.steps = omega (arith, no_more, fewer, inv.1) in
-    (ap (λ x. flow P levels T x m slots new) c.deref-at-else-branch-6.ensures ∙ sym h, steps)
+    (ap (λ x. flow P levels T x m slots new) c.deref-at-else-branch-5.ensures ∙ sym h, steps)
