@@ -25,8 +25,8 @@ run_from-returns-in_err-pay_all-in-Nested-clause-follows = instructions.run_from
 pub run_from-returns-in_err-run_inner-in-Nested-clause-follows : goal.run_from-returns-in_err-run_inner-in-Nested-clause-follows
 run_from-returns-in_err-run_inner-in-Nested-clause-follows = instructions.run_from-returns-in_err-run_inner-in-Nested-clause-follows
 
-pub run_from-loop-at-preserved-then-branch-5 : goal.run_from-loop-at-preserved-then-branch-6
-run_from-loop-at-preserved-then-branch-5 = instructions.run_from-loop-at-preserved-then-branch-6
+pub run_from-loop-at-preserved-then-branch-5 : goal.run_from-loop-at-preserved-then-branch-5
+run_from-loop-at-preserved-then-branch-5 = instructions.run_from-loop-at-preserved-then-branch-5
 
 pub run_from-loop-at-preserved : goal.run_from-loop-at-preserved
 run_from-loop-at-preserved = instructions.run_from-loop-at-preserved
