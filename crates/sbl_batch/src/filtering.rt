@@ -1,5 +1,5 @@
 //! Reads a script and words, and writes the rows of the words that it has before it asks for more input.
-ghost use Rattle.std.specs.Prelude.{◌≡◌, ◌≤◌, ◌⊎◌, [], None, IfErr, IfOk, OnOk};
+ghost use Rattle.std.specs.Prelude.{◌≡◌, ◌≤◌, ◌⊎◌, [], None, IfErr, OnOk};
 ghost use Rattle.std.specs.Str.{chars};
 ghost use Rattle.sbl_batch.specs.Filter.{Filters, IsFiltered, RepeatsFault};
 ghost use Rattle.sbl_batch.specs.HeldRows.{PushesRow, ReadsWordsOf};
@@ -19,28 +19,55 @@ use sbl_io::{Lines, ServeFault, Sink, Source};
 use sbl_machine::{Machine, Meter, Table};
 use sbl_script::Script;
 use std::alloc::{AllocError, Global};
+use std::mem;
 
-/// Returns the characters of a word. Asks for memory once, and returns `AllocError` if that fails.
-fn characters_of(alloc: Global, word: &str) -> Result<Vec<char>, AllocError>
-    ensures { IfOk result (λ characters. characters.items ≡ chars word.now) }
+/// Replaces the characters by those of a word. Returns `AllocError` if an allocation fails.
+fn put_characters(characters: &mut Vec<char>, word: &str) -> Result<(), AllocError>
+    ensures { OnOk result (characters.new.items ≡ chars word.now) }
 {
+    characters.clear();
     if word.is_ascii() {
-        return ascii_characters(alloc, word.as_bytes());
+        return put_ascii(characters, word.as_bytes());
     }
-    let mut characters = Vec::with_capacity(alloc, word.chars().count())?;
-    characters.extend(word.chars())?;
-    Ok(characters)
+    characters.reserve(word.len())?;
+    characters.extend(word.chars())
 }
 
-/// Returns the characters of a word that is ASCII. Returns `AllocError` if an allocation fails.
-fn ascii_characters(alloc: Global, word: &[u8]) -> Result<Vec<char>, AllocError>
-    ensures { IfOk result (λ characters. characters.items ≡ word.now) }
+/// Appends the characters of a word that is ASCII to none. Returns `AllocError` if an allocation fails.
+fn put_ascii(characters: &mut Vec<char>, word: &[u8]) -> Result<(), AllocError>
+    requires { characters.old.items ≡ [] }
+    ensures { OnOk result (characters.new.items ≡ word.now) }
 {
-    let mut characters = Vec::with_capacity(alloc, word.len())?;
+    characters.reserve(word.len())?;
     for byte in word {
         characters.push_reserved(*byte as char);
     }
-    Ok(characters)
+    Ok(())
+}
+
+/// Appends the row of a word of these characters to the rows that are not written yet; an empty word has no row. Returns `WordTooLong`
+/// and `OutOfMemory` as `filter_line` does.
+fn filter_word(
+    alloc: Global,
+    machine: &Machine<Table>,
+    meter: &mut Meter,
+    rows: &mut RowWriter,
+    word: &str,
+    characters: &[char],
+) -> Result<(), LoadFault>
+    requires is { characters.now ≡ chars word.now }
+    requires between { IsBetweenLines rows.old.lines }
+    ensures between { OnOk result (IsBetweenLines rows.new.lines) }
+    ensures pushes { (s : Source) → IsLinkedMachineOf machine.now s → PushesRow s word.now rows.old.text.items rows.new.text.items result }
+{
+    if characters.len() > MAX_WORD_LENGTH {
+        return Err(LoadFault::Open(EditFault::WordTooLong));
+    }
+    if characters.is_empty() {
+        return Ok(());
+    }
+    push_row(alloc, machine, meter, rows, word, characters)?;
+    Ok(())
 }
 
 /// Appends the row of the word in a line to the rows that are not written yet; an empty line has no row. Returns `NotText` if the line
@@ -59,15 +86,11 @@ pub(crate) fn filter_line(
     let Ok(word) = str::from_utf8(line) else {
         return Err(LoadFault::Input(ServeFault::NotText));
     };
-    let characters = characters_of(alloc, word)?;
-    if characters.len() > MAX_WORD_LENGTH {
-        return Err(LoadFault::Open(EditFault::WordTooLong));
-    }
-    if characters.is_empty() {
-        return Ok(());
-    }
-    push_row(alloc, machine, meter, rows, word, &characters)?;
-    Ok(())
+    let mut characters = mem::replace(&mut rows.characters, Vec::new(alloc));
+    put_characters(&mut characters, word)?;
+    let filtered = filter_word(alloc, machine, meter, rows, word, &characters);
+    rows.characters = characters;
+    filtered
 }
 
 /// Reads words up to a line `.` or the end of input, and writes their rows before each read. The rows of the words after the last read

@@ -65,11 +65,13 @@ fn are_plain(word: &[u8], kind: &[u8], text: &[u8]) -> bool
 fn is_quoted(field: &[u8]) -> bool
     ensures { result ≡ needs_quotes flexible field.now }
 {
-    let mut is_quoted = false;
     for byte in field {
-        is_quoted |= is_special(*byte);
+        // Nearly all bytes are greater than those that are quoted.
+        if *byte <= b',' && is_special(*byte) {
+            return true;
+        }
     }
-    is_quoted
+    false
 }
 
 // Returns whether `csv` quotes a field with this byte.

@@ -38,6 +38,8 @@ pub(crate) struct RowWriter {
     pub(crate) text: Vec<u8>,
     // The steps of the runs since the last write.
     steps: u64,
+    /// A buffer for the characters of a word.
+    pub(crate) characters: Vec<char>,
 }
 
 impl RowWriter {
@@ -51,6 +53,7 @@ impl RowWriter {
             stem: TextBuffer::new(alloc),
             text: Vec::new(alloc),
             steps: 0,
+            characters: Vec::new(alloc),
         }
     }
 

@@ -1,6 +1,6 @@
 use Rattle.std.proofs.Common.{◌∙◌, ◌++◌, ◌≤◌, ◌∷◌, [], ℕ, List, ap, arith, get_or, length, sym, vec_capacity}
 use Rattle.std.proofs.lemmas.List.{take_more}
-use Rattle.sbl_batch.proofs.filtering.ascii_characters.Goals as goal
+use Rattle.sbl_batch.proofs.filtering.put_ascii.Goals as goal
 
 pub loop-byte-preserved : goal.loop-byte-preserved
 loop-byte-preserved c =

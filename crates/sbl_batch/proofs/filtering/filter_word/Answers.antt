@@ -1,0 +1,22 @@
+use Rattle.std.proofs.Common.{rules, ◌≡◌, ◌∙◌, ◌≤◌, ◌<◌, length}
+use Rattle.std.proofs.lemmas.Str.{is_utf8-from_IsUtf8}
+use Rattle.std.specs.Str.{is_utf8}
+use Rattle.sbl_batch.proofs.FilterFacts.{is_none, is_some, line-empty, line-long, line-row}
+use Rattle.sbl_batch.proofs.filtering.filter_word.Goals as goal
+
+pub returns-then-len-gt-MAX_WORD_LENGTH-clause-pushes : goal.returns-then-len-gt-MAX_WORD_LENGTH-clause-pushes
+returns-then-len-gt-MAX_WORD_LENGTH-clause-pushes c = λ s made.
+    let long : 255 < length c.args.characters.now = search rules in
+    line-long s c.args.word.now c.args.rows.now.text.items (is_utf8-from_IsUtf8 c.args.word.now c.utf8.word) c.requires.is long
+
+pub returns-then-is_empty-clause-pushes : goal.returns-then-is_empty-clause-pushes
+returns-then-is_empty-clause-pushes c = λ s made.
+    let none = is_none c.args.characters.now _ c.is_empty.result c.is_empty.ensures c.if-is_empty.true (search rules) in
+    line-empty s c.args.word.now c.args.rows.now.text.items (is_utf8-from_IsUtf8 c.args.word.now c.utf8.word) c.requires.is none
+
+pub returns-clause-pushes : goal.returns-clause-pushes
+returns-clause-pushes c = λ s made.
+    let some = is_some c.args.characters.now _ c.is_empty.result c.is_empty.ensures c.if-is_empty.false (search rules) in
+    let short : length c.args.characters.now ≤ 255 = search rules in
+    let row = c.in_ok-push_row.ensures.row s made in
+    line-row s c.args.word.now c.args.rows.now.text.items (is_utf8-from_IsUtf8 c.args.word.now c.utf8.word) c.requires.is c.push_row.new.rows.text.items some short row
