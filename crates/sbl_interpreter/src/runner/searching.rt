@@ -1,10 +1,8 @@
 //! Searches the strings of an among.
 
-ghost use Rattle.std.specs.Prelude.{◌≡◌, ◌<◌, ◌≤◌, Some, false, IfOk, slice_get};
+ghost use Rattle.std.specs.Prelude.{◌≡◌, ◌<◌, ◌≤◌, false, IfOk, slice_get};
 ghost use Rattle.sbl_run_state.specs.Endings.{Follows, IsSaved};
-ghost use Rattle.sbl_program.specs.Listing.{fits_at};
-ghost use Rattle.sbl_program.specs.Search.{bound_in, search_all, search_strings};
-ghost use Rattle.sbl_semantics.specs.Fitting.{first};
+ghost use Rattle.sbl_program.specs.Search.{search_all, search_strings};
 ghost use Rattle.sbl_interpreter.specs.Inner.{TriesOne, calls_in};
 
 use crate::runner::Runner;
@@ -43,35 +41,10 @@ impl<'a, T: Tables> Runner<'a, T> {
         ensures follows { Follows result state.new (search_strings (calls_in T.listed self.now) among entries.now (T.listed self.now.tables.now table) self.now.mode state.old) }
         ensures no_more { IfOk result (λ _. state.new.steps ≤ state.old.steps) }
     {
-        let found = self
+        let from = state.saved_cursor();
+        let mut place = self
             .tables
             .longest(table, state.text(), state.place(), state.bound(self.mode));
-        match found {
-            Some(i) => self.run_found(among, table, entries, i, state),
-            None => {
-                state.take_none(among)?;
-                Ok(false)
-            }
-        }
-    }
-
-    /// Tries a string that matches, and then shorter ones.
-    #[cycle(run)]
-    #[inline(never)]
-    fn run_found(
-        &self,
-        among: usize,
-        table: usize,
-        entries: &[Candidate],
-        longest: usize,
-        state: &mut State,
-    ) -> Result<bool, Halt>
-        requires { Some longest ≡ first (fits_at (T.listed self.now.tables.now table) state.old.text state.old.cursor (bound_in self.now.mode state.old)) }
-        ensures follows { Follows result state.new (search_strings (calls_in T.listed self.now) among entries.now (T.listed self.now.tables.now table) self.now.mode state.old) }
-        ensures no_more { IfOk result (λ _. state.new.steps ≤ state.old.steps) }
-    {
-        let from = state.saved_cursor();
-        let mut place = Some(longest);
         while let Some(i) = place {
             match self.try_string(among, from, entries, i, state) {
                 Err(halt) => return Err(halt),

@@ -43,23 +43,17 @@ run_from-loop-at-preserved-then-branch-3 = choices.run_from-loop-at-preserved-th
 pub run_from-loop-at-preserved-else-branch-3 : goal.run_from-loop-at-preserved-else-branch-3
 run_from-loop-at-preserved-else-branch-3 = choices.run_from-loop-at-preserved-else-branch-3
 
-pub run_search-run_found-requires : goal.run_search-run_found-requires
-run_search-run_found-requires = calls.run_search-run_found-requires
+pub run_search-loop-place-init : goal.run_search-loop-place-init
+run_search-loop-place-init = calls.run_search-loop-place-init
 
-pub run_search-returns-in-None-clause-follows : goal.run_search-returns-in-None-clause-follows
-run_search-returns-in-None-clause-follows = calls.run_search-returns-in-None-clause-follows
+pub run_search-loop-place-preserved : goal.run_search-loop-place-preserved
+run_search-loop-place-preserved = calls.run_search-loop-place-preserved
 
-pub run_found-loop-place-init : goal.run_found-loop-place-init
-run_found-loop-place-init = calls.run_found-loop-place-init
+pub run_search-returns-in-Err-clause-follows : goal.run_search-returns-in-Err-clause-follows
+run_search-returns-in-Err-clause-follows = calls.run_search-returns-in-Err-clause-follows
 
-pub run_found-loop-place-preserved : goal.run_found-loop-place-preserved
-run_found-loop-place-preserved = calls.run_found-loop-place-preserved
-
-pub run_found-returns-in-Err-clause-follows : goal.run_found-returns-in-Err-clause-follows
-run_found-returns-in-Err-clause-follows = calls.run_found-returns-in-Err-clause-follows
-
-pub run_found-returns-in-Ok-true-clause-follows : goal.run_found-returns-in-Ok-true-clause-follows
-run_found-returns-in-Ok-true-clause-follows = calls.run_found-returns-in-Ok-true-clause-follows
+pub run_search-returns-in-Ok-true-clause-follows : goal.run_search-returns-in-Ok-true-clause-follows
+run_search-returns-in-Ok-true-clause-follows = calls.run_search-returns-in-Ok-true-clause-follows
 
 pub run_call-returns-in_err-signal-in-Some-clause-follows : goal.run_call-returns-in_err-signal-in-Some-clause-follows
 run_call-returns-in_err-signal-in-Some-clause-follows = calls.run_call-returns-in_err-signal-in-Some-clause-follows

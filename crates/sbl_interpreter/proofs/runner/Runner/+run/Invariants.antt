@@ -13,43 +13,40 @@ use Rattle.sbl_interpreter.proofs.runner.Runner.+run.Given as goal
 -- Each of these calls of another is after a step or has a smaller summand.
 
 abbrev pub decreases-run_from : goal.decreases-run_from
-decreases-run_from g l = 7 * l.state.now.steps
+decreases-run_from g l = 6 * l.state.now.steps
 
 abbrev pub decreases-run_inner : goal.decreases-run_inner
-decreases-run_inner g l = 7 * l.state.now.steps + 6
+decreases-run_inner g l = 6 * l.state.now.steps + 5
 
 abbrev pub decreases-run_turns : goal.decreases-run_turns
-decreases-run_turns g l = 7 * l.state.now.steps + 1
+decreases-run_turns g l = 6 * l.state.now.steps + 1
 
 abbrev pub decreases-run_times : goal.decreases-run_times
-decreases-run_times g l = 7 * l.state.now.steps + 1
+decreases-run_times g l = 6 * l.state.now.steps + 1
 
 abbrev pub decreases-run_at_least : goal.decreases-run_at_least
-decreases-run_at_least g l = 7 * l.state.now.steps + 2
+decreases-run_at_least g l = 6 * l.state.now.steps + 2
 
 abbrev pub decreases-run_tries : goal.decreases-run_tries
-decreases-run_tries g l = 7 * l.state.now.steps + 1
+decreases-run_tries g l = 6 * l.state.now.steps + 1
 
 abbrev pub decreases-run_backwards : goal.decreases-run_backwards
-decreases-run_backwards g l = 7 * l.state.now.steps + 1
+decreases-run_backwards g l = 6 * l.state.now.steps + 1
 
 abbrev pub decreases-run_limited : goal.decreases-run_limited
-decreases-run_limited g l = 7 * l.state.now.steps + 1
+decreases-run_limited g l = 6 * l.state.now.steps + 1
 
 abbrev pub decreases-run_call : goal.decreases-run_call
-decreases-run_call g l = 7 * l.state.now.steps + 1
+decreases-run_call g l = 6 * l.state.now.steps + 1
 
 abbrev pub decreases-run_search_all : goal.decreases-run_search_all
-decreases-run_search_all g l = 7 * l.state.now.steps + 5
+decreases-run_search_all g l = 6 * l.state.now.steps + 4
 
 abbrev pub decreases-run_search : goal.decreases-run_search
-decreases-run_search g l = 7 * l.state.now.steps + 4
-
-abbrev pub decreases-run_found : goal.decreases-run_found
-decreases-run_found g l = 7 * l.state.now.steps + 3
+decreases-run_search g l = 6 * l.state.now.steps + 3
 
 abbrev pub decreases-try_string : goal.decreases-try_string
-decreases-try_string g l = 7 * l.state.now.steps + 2
+decreases-try_string g l = 6 * l.state.now.steps + 2
 
 -- what is left does from here what all of it does from the start
 abbrev pub invariant-run_from-loop-at : goal.invariant-run_from-loop-at
@@ -89,13 +86,13 @@ abbrev pub decreases-run_tries-loop-state : goal.decreases-run_tries-loop-state
 decreases-run_tries-loop-state g l = l.left
 
 -- the strings that are left do from here what all of them do from the start
-abbrev pub invariant-run_found-loop-place : goal.invariant-run_found-loop-place
-invariant-run_found-loop-place g l =
+abbrev pub invariant-run_search-loop-place : goal.invariant-run_search-loop-place
+invariant-run_search-loop-place g l =
     let T = g.T.Tables.listed l.self.tables.now in
     let call = calls (program_of T l.self.code.now) l.self.levels in
     (before : List ℕ) × (rest : List ℕ) × (fits_at (T l.table) l.initial.state.text l.initial.state.cursor (bound_in l.self.mode l.initial.state) ≡ before ++ rest) × (l.place ≡ first rest) ×
     (tries call l.among l.entries l.self.mode l.initial.state rest l.state ≡ search_strings call l.among l.entries (T l.table) l.self.mode l.initial.state) ×
     (l.state.steps ≤ l.initial.state.steps)
 
-abbrev pub decreases-run_found-loop-place : goal.decreases-run_found-loop-place
-decreases-run_found-loop-place g l = l.state.steps
+abbrev pub decreases-run_search-loop-place : goal.decreases-run_search-loop-place
+decreases-run_search-loop-place g l = l.state.steps

@@ -1,5 +1,5 @@
 -- What instructions call: turns, searches and calls.
-use Rattle.std.proofs.Common.{◌≡◌, ℕ, List, None, true, false, Ok, Err, refl, ◌<◌, [], ◌∷◌, ◌++◌, ◌≤◌, sym, ap, ◌∙◌, arith, rules, append_assoc}
+use Rattle.std.proofs.Common.{◌≡◌, true, false, Ok, Err, refl, ◌<◌, [], ◌∷◌, ◌++◌, ◌≤◌, sym, ap, ◌∙◌, arith, rules, append_assoc}
 use Rattle.std.specs.Prelude.{slice_get, ◌-◌}
 use Rattle.sbl_run_state.specs.Endings.{Follows}
 use Rattle.sbl_program.proofs.Arms.{one_more, one_time, time_stops, calls_routine, leave_signals}
@@ -16,39 +16,16 @@ use Rattle.sbl_semantics.specs.Fitting.{first}
 use Rattle.sbl_code.specs.Flow.{flow, alone}
 use Rattle.sbl_interpreter.proofs.runner.Runner.+run.Goals as goal
 
--- the strings that match, and the longest of them
-none-fits : (fits : List ℕ) → None ≡ first fits → fits ≡ []
-none-fits [] h = refl
-none-fits (i ∷ is) h = cc
-
-pub run_search-run_found-requires : goal.run_search-run_found-requires
-run_search-run_found-requires g t c =
-    let T = g.T.Tables.listed c.args.self.now.tables.now c.args.table in
-    let s = c.args.state.now in
-    let e = ap (λ x. first (fits_at T x c.place.result c.bound.result)) c.text.ensures ∙ ap (λ x. first (fits_at T s.text x c.bound.result)) c.place.ensures.value ∙ ap (λ x. first (fits_at T s.text s.cursor x)) c.bound.ensures.value in
-    sym c.in-Some.is ∙ c.longest-found.ensures ∙ e
-
-pub run_search-returns-in-None-clause-follows : goal.run_search-returns-in-None-clause-follows
-run_search-returns-in-None-clause-follows g t c =
-    let T = g.T.Tables.listed c.args.self.now.tables.now c.args.table in
-    let s = c.args.state.now in
-    let es = c.args.entries.now in
-    let m = c.args.self.now.mode in
-    let call = calls (program_of (g.T.Tables.listed c.args.self.now.tables.now) c.args.self.now.code.now) c.args.self.now.levels in
-    let e = ap (λ x. first (fits_at T x c.place.result c.bound.result)) c.text.ensures ∙ ap (λ x. first (fits_at T s.text x c.bound.result)) c.place.ensures.value ∙ ap (λ x. first (fits_at T s.text s.cursor x)) c.bound.ensures.value in
-    let fits = fits_at T s.text s.cursor (bound_in m s) in
-    let none = none-fits fits (sym c.in-None.is ∙ c.longest-found.ensures ∙ e) in
-    ap (λ is. tries call c.args.among es m s is s) none ∙ ap (Signals false) (sym c.in_ok-take_none-in-None.ensures)
-
-pub run_found-loop-place-init : goal.run_found-loop-place-init
-run_found-loop-place-init g t c =
+pub run_search-loop-place-init : goal.run_search-loop-place-init
+run_search-loop-place-init g t c =
     let T = g.T.Tables.listed c.args.self.now.tables.now c.args.table in
     let s = c.args.state.now in
     let fits = fits_at T s.text s.cursor (bound_in c.args.self.now.mode s) in
-    ([], fits, refl, c.requires, refl, omega arith)
+    let e = ap (λ x. first (fits_at T x c.place.result c.bound.result)) c.text.ensures ∙ ap (λ x. first (fits_at T s.text x c.bound.result)) c.place.ensures.value ∙ ap (λ x. first (fits_at T s.text s.cursor x)) c.bound.ensures.value in
+    ([], fits, refl, c.longest-place.ensures ∙ e, refl, omega arith)
 
-pub run_found-loop-place-preserved : goal.run_found-loop-place-preserved
-run_found-loop-place-preserved g t c =
+pub run_search-loop-place-preserved : goal.run_search-loop-place-preserved
+run_search-loop-place-preserved g t c =
     let inv = c.loop-place.invariant in
     let s0 = c.args.state.now in
     let es = c.args.entries.now in
@@ -61,8 +38,8 @@ run_found-loop-place-preserved g t c =
     let steps : c.try_string.new.state.steps ≤ s0.steps = omega (arith, c.in-Ok-false.ensures.no_more, inv.5) in
     (inv.0 ++ (i ∷ []), o.0, cut ∙ sym (append_assoc inv.0 (i ∷ []) o.0), c.next_shorter-place.ensures s0.text s0.cursor (bound_in c.args.self.now.mode s0) inv.0 o.0 cut, sym (rw b at (c.in-Ok-false.ensures.tried s0 follow c.saved_cursor-from.ensures.value)) ∙ sym o.2 ∙ inv.4, steps)
 
-pub run_found-returns-in-Err-clause-follows : goal.run_found-returns-in-Err-clause-follows
-run_found-returns-in-Err-clause-follows g t c =
+pub run_search-returns-in-Err-clause-follows : goal.run_search-returns-in-Err-clause-follows
+run_search-returns-in-Err-clause-follows g t c =
     let inv = c.loop-place.invariant in
     let s0 = c.args.state.now in
     let es = c.args.entries.now in
@@ -71,8 +48,8 @@ run_found-returns-in-Err-clause-follows g t c =
     let follow = tries call c.args.among es c.args.self.now.mode s0 o.0 in
     tries_halt c.in-Err.halt c.try_string.new.state (try_one call c.args.among (slice_get es c.in-Some.i) c.args.self.now.mode s0 c.loop-place.state follow) (follow c.try_string.new.state) _ (c.in-Err.ensures.tried s0 follow c.saved_cursor-from.ensures.value) (sym o.2 ∙ inv.4)
 
-pub run_found-returns-in-Ok-true-clause-follows : goal.run_found-returns-in-Ok-true-clause-follows
-run_found-returns-in-Ok-true-clause-follows g t c =
+pub run_search-returns-in-Ok-true-clause-follows : goal.run_search-returns-in-Ok-true-clause-follows
+run_search-returns-in-Ok-true-clause-follows g t c =
     let inv = c.loop-place.invariant in
     let s0 = c.args.state.now in
     let es = c.args.entries.now in
