@@ -89,11 +89,11 @@ fn push_plain(rows: &mut Vec<u8>, word: &[u8], kind: &[u8], text: &[u8]) -> Resu
     ensures stays { OnErr result (rows.new.items ≡ rows.old.items) }
 {
     let before = rows.len();
-    let appended = append_plain(rows, word, kind, text);
-    if appended.is_err() {
+    if append_plain(rows, word, kind, text).is_err() {
         rows.truncate(before);
+        return Err(AllocError);
     }
-    appended
+    Ok(())
 }
 
 // Does the same, but if an allocation fails, a part of the row may be there.
