@@ -14,8 +14,8 @@ on_err_more : {T E P Q : Type 0} (r : Result T E) → (P → Q) → OnErr r P �
 on_err_more (Ok v) f p = tt
 on_err_more (Err e) f p = f p
 
-pub run_new-requires-clause-room : goal.run_new-requires-clause-room
-run_new-requires-clause-room c =
+pub run_or_break-requires-clause-room : goal.run_or_break-requires-clause-room
+run_or_break-requires-clause-room c =
     let es = c.args.before.now.entries in
     let one = one_run_of (words_in es) c.args.word.now (not_there c.args.word.now es c.in-None.ensures.value) in
     let room = c.requires.room in
@@ -38,10 +38,5 @@ pub returns-in-None-clause-counted : goal.returns-in-None-clause-counted
 returns-in-None-clause-counted c =
     let es = c.args.before.now.entries in
     let one = one_run_of (words_in es) c.args.word.now (not_there c.args.word.now es c.in-None.ensures.value) in
-    on_ok_weaker c.run_new.result (λ e. e ∙ ap (λ (n : ℕ). c.args.meter.now + n) (sym one)) c.run_new.ensures.counted
+    on_ok_weaker c.run_or_break.result (λ e. e ∙ ap (λ (n : ℕ). c.args.meter.now + n) (sym one)) c.run_or_break.ensures.counted
 
-pub returns-in-None-clause-some : goal.returns-in-None-clause-some
-returns-in-None-clause-some c =
-    let es = c.args.before.now.entries in
-    let one = one_run_of (words_in es) c.args.word.now (not_there c.args.word.now es c.in-None.ensures.value) in
-    on_err_more c.run_new.result (λ p. (p.0, subst (λ (n : ℕ). p.0 ≤ n) (sym one) p.1, p.2)) c.run_new.ensures.some

@@ -45,19 +45,3 @@ loop-word-preserved c =
       more = (let so = c.loop-word.invariant.more in omega arith);
     }
 
-pub returns-in_err-last-clause-some : goal.returns-in_err-last-clause-some
-returns-in_err-last-clause-some c =
-    let left = runs_left (words_in c.args.before.now.entries) c.args.words.now c.loop-word.word-index c.loop-word-test.true in
-    let so = c.loop-word.invariant.counted in
-    let more = c.loop-word.invariant.more in
-    let few = c.in_err-last.ensures.some.1 in
-    let is = c.in_err-last.ensures.some.2 in
-    on_err c.from_residual-in_err-last.result (c.run_of.new.meter - c.args.meter.now, omega arith, omega arith)
-
-pub returns-in_err-put-clause-some : goal.returns-in_err-put-clause-some
-returns-in_err-put-clause-some c =
-    let left = runs_left (words_in c.args.before.now.entries) c.args.words.now c.loop-word.word-index c.loop-word-test.true in
-    let so = c.loop-word.invariant.counted in
-    let more = c.loop-word.invariant.more in
-    let is = c.in_ok-last.ensures.counted in
-    on_err c.from_residual-in_err-put.result (c.run_of.new.meter - c.args.meter.now, omega arith, omega arith)

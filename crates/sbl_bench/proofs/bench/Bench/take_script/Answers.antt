@@ -4,6 +4,7 @@ use Rattle.std.proofs.lemmas.Result.{err_from_is_err_and}
 use Rattle.sbl_script.specs.ParsedScript.{ParsedScript, source_of}
 use Rattle.sbl_machine.specs.MachineOf.{IsLinkedMachineOf}
 use Rattle.sbl_bench.specs.inside.Changes.{Brings, affected_of}
+use Rattle.sbl_bench.specs.BreakingOff.{EditsOrBreaks}
 use Rattle.sbl_bench.specs.Edits.{BeforeEdit, Edits}
 use Rattle.sbl_bench.specs.KeptRuns.{IsWord, KeptRuns, contents_of}
 use Rattle.sbl_bench.specs.inside.KeptEntries.{KeptWord, IsKept, words_in}
@@ -41,7 +42,7 @@ returns-in_err-changes-clause-edits c e brings =
     let g = c.in_err-changes.field-0.0 in
     let f = err_from_is_err_and c.from_residual-in_err-changes.result c.from_residual-in_err-changes.ensures.1 in
     let after : Contents = record { setting = under p l; words = words_in es; count = c.rerun.new.meter } in
-    rw (f.1, f.2) (subst (λ (k : KeptRuns). Edits (Err g) (contents_of k) e after) c.self.view_is
+    rw (f.1, f.2) (subst (λ (k : KeptRuns). EditsOrBreaks (Err g) (contents_of k) e after) c.self.view_is
     (stop_edits s e t a es b refl c.self.invariant.1.fresh g c.rerun.new.meter c.in_err-changes.ensures.stop))
 
 pub make_changes-last-requires-clause-changes : goal.make_changes-last-requires-clause-changes
