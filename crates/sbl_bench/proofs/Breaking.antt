@@ -48,6 +48,23 @@ untold said fault.MeterFull not = refl
 untold said fault.BadLimit not = refl
 untold said fault.NoGrouping not = refl
 
+-- the same after calls in which the caller has said nothing
+pub told_more : {A C : Type 0} (f : EditFault) (said between said_now : Bool) → between ≡ said → BreaksIfTold {C} between said_now (Err f) → BreaksIfTold {A} said said_now (Err f)
+told_more fault.BrokenOff said between said_now same told = told
+told_more fault.Present said between said_now same told = told ∙ same
+told_more fault.Absent said between said_now same told = told ∙ same
+told_more fault.EmptyWord said between said_now same told = told ∙ same
+told_more fault.WordTooLong said between said_now same told = told ∙ same
+told_more fault.Full said between said_now same told = told ∙ same
+told_more fault.NoRoutine said between said_now same told = told ∙ same
+told_more fault.NoAmong said between said_now same told = told ∙ same
+told_more fault.AmongCount said between said_now same told = told ∙ same
+told_more (fault.Script g) said between said_now same told = told ∙ same
+told_more fault.OutOfMemory said between said_now same told = told ∙ same
+told_more fault.MeterFull said between said_now same told = told ∙ same
+told_more fault.BadLimit said between said_now same told = told ∙ same
+told_more fault.NoGrouping said between said_now same told = told ∙ same
+
 -- an edit whose caller never says so
 pub plain : (r : Result (Unit {0}) EditFault) (s t : Contents) (e : Edit) → BreaksIfTold false false r → EditsOrBreaks r s e t → Edits r s e t
 plain (Ok u) s t e told h = h

@@ -6,6 +6,6 @@ use Rattle.sbl_bench.proofs.Meeting.{met_sound}
 use Rattle.sbl_bench.proofs.change.rerun.Goals as goal
 
 pub run_words-requires-clause-sound : goal.run_words-requires-clause-sound
-run_words-requires-clause-sound c =
+run_words-requires-clause-sound g c =
     subst (All IsWord) (sym (ap (map (λ (w : Bor (List ℕ)). w.now)) c.deref.ensures.value ∙ c.in_ok-words.ensures.words))
     (met_sound (affected_of c.args.affected.now) c.args.traces.now.entries c.requires.sound)

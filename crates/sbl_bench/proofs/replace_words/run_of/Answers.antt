@@ -15,27 +15,27 @@ on_err_more (Ok v) f p = tt
 on_err_more (Err e) f p = f p
 
 pub run_or_break-requires-clause-room : goal.run_or_break-requires-clause-room
-run_or_break-requires-clause-room c =
+run_or_break-requires-clause-room g c =
     let es = c.args.before.now.entries in
     let one = one_run_of (words_in es) c.args.word.now (not_there c.args.word.now es c.in-None.ensures.value) in
     let room = c.requires.room in
     omega arith
 
 pub returns-in-Some-clause-fresh : goal.returns-in-Some-clause-fresh
-returns-in-Some-clause-fresh c s made fresh =
+returns-in-Some-clause-fresh g c s made fresh =
     let es = c.args.before.now.entries in
     let last = c.in-Some.last.now in
     copied_fresh c.copy.result (under s c.args.limit) c.args.word.now last c.copy.ensures.outcome c.copy.ensures.touches c.copy.ensures.used
     (fresh_found (under s c.args.limit) c.args.word.now es last fresh c.in-Some.ensures.value)
 
 pub returns-in-Some-clause-counted : goal.returns-in-Some-clause-counted
-returns-in-Some-clause-counted c =
+returns-in-Some-clause-counted g c =
     let es = c.args.before.now.entries in
     let none = no_run_of (words_in es) c.args.word.now (is_there c.args.word.now es c.in-Some.last.now c.in-Some.ensures.value) in
     on_ok c.copy.result (omega arith)
 
 pub returns-in-None-clause-counted : goal.returns-in-None-clause-counted
-returns-in-None-clause-counted c =
+returns-in-None-clause-counted g c =
     let es = c.args.before.now.entries in
     let one = one_run_of (words_in es) c.args.word.now (not_there c.args.word.now es c.in-None.ensures.value) in
     on_ok_weaker c.run_or_break.result (λ e. e ∙ ap (λ (n : ℕ). c.args.meter.now + n) (sym one)) c.run_or_break.ensures.counted

@@ -1,4 +1,5 @@
 use Rattle.std.proofs.Common.{◌≡◌, ◌<◌, ◌∙◌, ◌+◌, ◌-◌, ◌++◌, ◌∷◌, [], ℕ, List, Result, Ok, Err, OnErr, length, drop, get_or, arith, ap, refl, sym}
+use Rattle.std.proofs.lemmas.Result.{err_from_is_err_and}
 use Rattle.sbl_rows.specs.Classes.{texts_of}
 use Rattle.sbl_rows.specs.KnownOutcomes.{Text}
 use Rattle.sbl_rows.specs.Setting.{under}
@@ -6,6 +7,7 @@ use Rattle.sbl_rows.proofs.Loops.{next, so_far}
 use Rattle.sbl_rows.proofs.SetFacts.{no_text}
 use Rattle.sbl_bench.specs.inside.KeptEntries.{words_in}
 use Rattle.sbl_bench.specs.inside.WordLists.{new_words, runs_of_word}
+use Rattle.sbl_bench.proofs.Breaking.{cut_more, told_more}
 use Rattle.sbl_bench.proofs.Listing.{new_after, new_count_at, sound_at}
 use Rattle.sbl_bench.proofs.replace_words.runs_of.Goals as goal
 
@@ -14,25 +16,21 @@ runs_left : (before : List (List ℕ)) (words : List Text) (i : ℕ) → i < len
     → length (new_words before (texts_of (drop i words))) ≡ runs_of_word before (get_or words i no_text).now + length (new_words before (texts_of (drop (i + 1) words)))
 runs_left before words i below = new_count_at before (texts_of (drop i words)) (texts_of (drop (i + 1) words)) (get_or words i no_text).now (next (λ (t : Text). t.now) words i no_text (get_or words i no_text) below refl)
 
-on_err : {T E P : Type 0} (r : Result T E) → P → OnErr r P
-on_err (Ok v) p = tt
-on_err (Err e) p = p
-
 pub run_of-requires-clause-sound : goal.run_of-requires-clause-sound
-run_of-requires-clause-sound c = sound_at (λ (t : Text). t.now) c.args.words.now c.loop-word.word-index _ c.requires.sound c.loop-word-test.true
+run_of-requires-clause-sound g c = sound_at (λ (t : Text). t.now) c.args.words.now c.loop-word.word-index _ c.requires.sound c.loop-word-test.true
 
 pub run_of-requires-clause-room : goal.run_of-requires-clause-room
-run_of-requires-clause-room c =
+run_of-requires-clause-room g c =
     let left = runs_left (words_in c.args.before.now.entries) c.args.words.now c.loop-word.word-index c.loop-word-test.true in
     let so = c.loop-word.invariant.counted in
     let room = c.requires.room in
     omega arith
 
 pub put-requires : goal.put-requires
-put-requires c = new_after (λ (t : Text). t.now) c.args.words.now c.loop-word.word-index no_text (words_in c.loop-word.traces.entries) c.requires.distinct c.loop-word-test.true c.loop-word.invariant.words
+put-requires g c = new_after (λ (t : Text). t.now) c.args.words.now c.loop-word.word-index no_text (words_in c.loop-word.traces.entries) c.requires.distinct c.loop-word-test.true c.loop-word.invariant.words
 
 pub loop-word-preserved : goal.loop-word-preserved
-loop-word-preserved c =
+loop-word-preserved g c =
     let es = words_in c.args.before.now.entries in
     let i = c.loop-word.word-index in
     let below = c.loop-word-test.true in
@@ -43,5 +41,32 @@ loop-word-preserved c =
       fresh = λ s made old. c.in_ok-put.ensures.kept (under s c.args.limit) (c.loop-word.invariant.fresh s made old) (c.in_ok-last.ensures.fresh s made old);
       counted = (let so = c.loop-word.invariant.counted in omega arith);
       more = (let so = c.loop-word.invariant.more in omega arith);
+      untold = c.in_ok-last.ensures.asked ∙ c.loop-word.invariant.untold;
     }
 
+pub returns-in_err-last-clause-cut : goal.returns-in_err-last-clause-cut
+returns-in_err-last-clause-cut g c =
+    let f = err_from_is_err_and c.from_residual-in_err-last.result c.from_residual-in_err-last.ensures.1 in
+    let left = runs_left (words_in c.args.before.now.entries) c.args.words.now c.loop-word.word-index c.loop-word-test.true in
+    let so = c.loop-word.invariant.counted in
+    let more = c.loop-word.invariant.more in
+    rw (f.1, f.2) (cut_more c.in_err-last.field-0.0 _ _ c.args.meter.now c.loop-word.meter c.run_of.new.meter more (omega arith) c.in_err-last.ensures.cut)
+
+pub returns-in_err-last-clause-asked : goal.returns-in_err-last-clause-asked
+returns-in_err-last-clause-asked g c =
+    let f = err_from_is_err_and c.from_residual-in_err-last.result c.from_residual-in_err-last.ensures.1 in
+    rw (f.1, f.2) (told_more c.in_err-last.field-0.0 _ _ _ c.loop-word.invariant.untold c.in_err-last.ensures.asked)
+
+pub returns-in_err-put-clause-cut : goal.returns-in_err-put-clause-cut
+returns-in_err-put-clause-cut g c =
+    let f = err_from_is_err_and c.from_residual-in_err-put.result c.from_residual-in_err-put.ensures.1 in
+    let left = runs_left (words_in c.args.before.now.entries) c.args.words.now c.loop-word.word-index c.loop-word-test.true in
+    let so = c.loop-word.invariant.counted in
+    let more = c.loop-word.invariant.more in
+    let is = c.in_ok-last.ensures.counted in
+    rw (f.1, f.2) (c.run_of.new.meter - c.args.meter.now, omega arith, omega arith)
+
+pub returns-in_err-put-clause-asked : goal.returns-in_err-put-clause-asked
+returns-in_err-put-clause-asked g c =
+    let f = err_from_is_err_and c.from_residual-in_err-put.result c.from_residual-in_err-put.ensures.1 in
+    rw (f.1, f.2) (c.in_ok-last.ensures.asked ∙ c.loop-word.invariant.untold)

@@ -16,7 +16,7 @@ use Rattle.sbl_bench.proofs.Replacing.{nothing_made, passes, refusal_edits}
 use Rattle.sbl_bench.proofs.bench.Bench.replace_or_break.Goals as goal
 
 pub returns-in_err-script-clause-edits : goal.returns-in_err-script-clause-edits
-returns-in_err-script-clause-edits c =
+returns-in_err-script-clause-edits g c =
     let s : Contents = record { setting = under (source_of c.self.inside.script) c.self.inside.limit; words = words_in c.self.inside.traces.entries; count = c.self.inside.meter } in
     let e : ScriptEdit = view_part c.args.part in
     let g = c.in_err-script.field-0.0 in
@@ -25,13 +25,13 @@ returns-in_err-script-clause-edits c =
     (ends s s (Replace e c.args.text.now) (fault_of_script g) (script_fault_ends g) (refusal_edits s e c.args.text.now c.with.result c.with.ensures.missing g c.in_err-script.was c.in_err-script.ensures.fault)))
 
 pub returns-in_err-script-clause-asked : goal.returns-in_err-script-clause-asked
-returns-in_err-script-clause-asked c =
+returns-in_err-script-clause-asked g c =
     let g = c.in_err-script.field-0.0 in
     let p = err_from_is_err_and c.from_residual.result c.from_residual.ensures.1 in
     rw (p.1, p.2) (untold _ (fault_of_script g) (script_fault_ends g))
 
 pub returns-in_err-item-clause-edits : goal.returns-in_err-item-clause-edits
-returns-in_err-item-clause-edits c =
+returns-in_err-item-clause-edits g c =
     let s : Contents = record { setting = under (source_of c.self.inside.script) c.self.inside.limit; words = words_in c.self.inside.traces.entries; count = c.self.inside.meter } in
     let e : ScriptEdit = view_part c.args.part in
     let p = err_from_is_err_and c.from_residual-in_err-item.result c.from_residual-in_err-item.ensures.1 in
@@ -39,7 +39,7 @@ returns-in_err-item-clause-edits c =
     (nothing_made s e c.args.text.now c.with.result c.with.ensures.missing c.in_ok-script.script c.in_ok-script.was))
 
 pub take_edited-requires : goal.take_edited-requires
-take_edited-requires c =
+take_edited-requires g c =
     let q = source_of c.in_ok-script.script in
     let s : Contents = record { setting = under (source_of c.self.inside.script) c.self.inside.limit; words = words_in c.self.inside.traces.entries; count = c.self.inside.meter } in
     let e : ScriptEdit = view_part c.args.part in (
@@ -53,7 +53,7 @@ take_edited-requires c =
     )
 
 pub returns-clause-edits : goal.returns-clause-edits
-returns-clause-edits c =
+returns-clause-edits g c =
     let q = source_of c.in_ok-script.script in
     let s : Contents = record { setting = under (source_of c.self.inside.script) c.self.inside.limit; words = words_in c.self.inside.traces.entries; count = c.self.inside.meter } in
     let e : ScriptEdit = view_part c.args.part in

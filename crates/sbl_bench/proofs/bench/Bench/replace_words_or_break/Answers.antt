@@ -25,7 +25,7 @@ is_vocabulary : (ws : List (List ℕ)) (list texts : List Text) → opening_faul
 is_vocabulary ws list texts none is same = subst IsVocabulary (sym (ap texts_of same ∙ is)) (vocabulary_is ws none)
 
 pub returns-in_err-list-clause-edits : goal.returns-in_err-list-clause-edits
-returns-in_err-list-clause-edits c =
+returns-in_err-list-clause-edits g c =
     let ws = map (λ w. w.items) c.args.words.now in
     let s : Contents = record { setting = under (source_of c.self.inside.script) c.self.inside.limit; words = words_in c.self.inside.traces.entries; count = c.self.inside.meter } in
     let g = c.in_err-list.field-0.0 in
@@ -34,21 +34,21 @@ returns-in_err-list-clause-edits c =
     rw (f.1, f.2) (subst (λ (k : KeptRuns). EditsOrBreaks (Err g) (contents_of k) (Words ws) (contents_of k)) c.self.view_is (ends s s (Words ws) g not (words_refused s ws g c.in_err-list.ensures.fault)))
 
 pub returns-in_err-list-clause-asked : goal.returns-in_err-list-clause-asked
-returns-in_err-list-clause-asked c =
+returns-in_err-list-clause-asked g c =
     let g = c.in_err-list.field-0.0 in
     let f = err_from_is_err_and c.from_residual.result c.from_residual.ensures.1 in
     rw (f.1, f.2) (untold _ g (list_ends (map (λ w. w.items) c.args.words.now) g c.in_err-list.ensures.fault))
 
 pub make_traces-requires-clause-sound : goal.make_traces-requires-clause-sound
-make_traces-requires-clause-sound c =
+make_traces-requires-clause-sound g c =
     (is_vocabulary (map (λ w. w.items) c.args.words.now) c.in_ok-list.list.items c.deref.result.now c.in_ok-list.ensures.ok c.in_ok-list.ensures.words c.deref.ensures.value).sound
 
 pub make_traces-requires-clause-distinct : goal.make_traces-requires-clause-distinct
-make_traces-requires-clause-distinct c =
+make_traces-requires-clause-distinct g c =
     (is_vocabulary (map (λ w. w.items) c.args.words.now) c.in_ok-list.list.items c.deref.result.now c.in_ok-list.ensures.ok c.in_ok-list.ensures.words c.deref.ensures.value).distinct
 
 pub returns-in_err-traces-clause-edits : goal.returns-in_err-traces-clause-edits
-returns-in_err-traces-clause-edits c =
+returns-in_err-traces-clause-edits g c =
     let ws = map (λ w. w.items) c.args.words.now in
     let es = c.self.inside.traces.entries in
     let t = under (source_of c.self.inside.script) c.self.inside.limit in
@@ -61,7 +61,7 @@ returns-in_err-traces-clause-edits c =
     (words_stop s ws c.in_ok-list.ensures.ok g c.make_traces.new.meter stop))
 
 pub invariant_of-self-2 : goal.invariant_of-self-2
-invariant_of-self-2 c =
+invariant_of-self-2 g c =
     let ws = map (λ w. w.items) c.args.words.now in
     let fs = c.in_ok-traces.traces.entries in
     let listed = ap texts_of c.deref.ensures.value ∙ c.in_ok-list.ensures.words in
@@ -77,7 +77,7 @@ invariant_of-self-2 c =
     )
 
 pub returns-clause-edits : goal.returns-clause-edits
-returns-clause-edits c =
+returns-clause-edits g c =
     let ws = map (λ w. w.items) c.args.words.now in
     let es = c.self.inside.traces.entries in
     let fs = c.in_ok-traces.traces.entries in
@@ -90,7 +90,7 @@ returns-clause-edits c =
     (words_replace s ws c.in_ok-list.ensures.ok (words_in fs) c.make_traces.new.meter (c.in_ok-traces.ensures.words ∙ listed) room counted)
 
 pub returns-clause-changes : goal.returns-clause-changes
-returns-clause-changes c =
+returns-clause-changes g c =
     let script = under (source_of c.self.inside.script) c.self.inside.limit in
     let fs = c.in_ok-traces.traces.entries in
     ap (last_changes fs) c.new.ensures.items

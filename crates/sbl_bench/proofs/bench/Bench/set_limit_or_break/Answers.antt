@@ -24,10 +24,10 @@ words_length : (es : List KeptWord) → length (words_in es) ≡ length es
 words_length es = length-map es _
 
 pub returns-in_default-clause-edits : goal.returns-in_default-clause-edits
-returns-in_default-clause-edits c = (inl (c.in_default.ensures, refl), refl)
+returns-in_default-clause-edits g c = (inl (c.in_default.ensures, refl), refl)
 
 pub returns-in_err-changes-clause-edits : goal.returns-in_err-changes-clause-edits
-returns-in_err-changes-clause-edits c =
+returns-in_err-changes-clause-edits g c =
     let p = source_of c.self.inside.script in
     let l = c.self.inside.limit in
     let n = c.in-Some.limit in
@@ -46,7 +46,7 @@ returns-in_err-changes-clause-edits c =
     (stop_edits s e t a es b refl c.self.invariant.1.fresh g c.rerun.new.meter c.in_err-changes.ensures.stop)))
 
 pub make_changes-before-requires-clause-changes : goal.make_changes-before-requires-clause-changes
-make_changes-before-requires-clause-changes c =
+make_changes-before-requires-clause-changes g c =
     let p = source_of c.self.inside.script in
     let l = c.self.inside.limit in
     let n = c.in-Some.limit in
@@ -60,12 +60,12 @@ make_changes-before-requires-clause-changes c =
     (t, anew a t es c.in_ok-changes.changes.items (c.in_ok-changes.ensures.changes p c.self.invariant.0) (still s.setting t a b.stays es c.self.invariant.1.fresh))
 
 pub make_changes-before-requires-clause-apart : goal.make_changes-before-requires-clause-apart
-make_changes-before-requires-clause-apart c =
+make_changes-before-requires-clause-apart g c =
     let t = under (source_of c.self.inside.script) c.in-Some.limit in
     apart t (affected_of c.above_smaller-affected.result) c.self.inside.traces.entries c.in_ok-changes.changes.items (c.in_ok-changes.ensures.changes (source_of c.self.inside.script) c.self.invariant.0) c.rerun.ensures.unique
 
 pub invariant_of-self-2 : goal.invariant_of-self-2
-invariant_of-self-2 c =
+invariant_of-self-2 g c =
     let p = source_of c.self.inside.script in
     let l = c.self.inside.limit in
     let n = c.in-Some.limit in
@@ -88,7 +88,7 @@ invariant_of-self-2 c =
     )
 
 pub returns-clause-edits : goal.returns-clause-edits
-returns-clause-edits c =
+returns-clause-edits g c =
     let p = source_of c.self.inside.script in
     let l = c.self.inside.limit in
     let n = c.in-Some.limit in
@@ -105,7 +105,7 @@ returns-clause-edits c =
     (commit_edits s e t a es b refl c.self.invariant.1.fresh c.make_changes-before.new.traces.entries c.rerun.new.meter c.make_changes-before.ensures.words c.in_ok-changes.ensures.room c.in_ok-changes.ensures.counted))
 
 pub returns-clause-changes : goal.returns-clause-changes
-returns-clause-changes c =
+returns-clause-changes g c =
     let p = source_of c.self.inside.script in
     let l = c.self.inside.limit in
     let n = c.in-Some.limit in

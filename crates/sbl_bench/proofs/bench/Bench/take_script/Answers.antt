@@ -25,12 +25,12 @@ words_length : (es : List KeptWord) → length (words_in es) ≡ length es
 words_length es = length-map es _
 
 pub returns-in_err-after-clause-edits : goal.returns-in_err-after-clause-edits
-returns-in_err-after-clause-edits c e brings =
+returns-in_err-after-clause-edits g c e brings =
     let f = err_from_is_err_and c.from_residual.result c.from_residual.ensures.1 in
     rw (f.1, f.2) (BeforeEdit brings.wants brings.passes refl)
 
 pub returns-in_err-changes-clause-edits : goal.returns-in_err-changes-clause-edits
-returns-in_err-changes-clause-edits c e brings =
+returns-in_err-changes-clause-edits g c e brings =
     let p = source_of c.self.inside.script in
     let q = source_of c.args.script.now in
     let l = c.self.inside.limit in
@@ -46,7 +46,7 @@ returns-in_err-changes-clause-edits c e brings =
     (stop_edits s e t a es b refl c.self.invariant.1.fresh g c.rerun.new.meter c.in_err-changes.ensures.stop))
 
 pub make_changes-last-requires-clause-changes : goal.make_changes-last-requires-clause-changes
-make_changes-last-requires-clause-changes c =
+make_changes-last-requires-clause-changes g c =
     let e = c.requires.0 in
     let p = source_of c.self.inside.script in
     let q = source_of c.args.script.now in
@@ -59,12 +59,12 @@ make_changes-last-requires-clause-changes c =
     (t, anew a t es c.in_ok-changes.changes.items (c.in_ok-changes.ensures.changes q c.in_ok-after.ensures) (still s.setting t a b.stays es c.self.invariant.1.fresh))
 
 pub make_changes-last-requires-clause-apart : goal.make_changes-last-requires-clause-apart
-make_changes-last-requires-clause-apart c =
+make_changes-last-requires-clause-apart g c =
     let q = source_of c.args.script.now in
     apart (under q c.self.inside.limit) (affected_of c.args.affected.now) c.self.inside.traces.entries c.in_ok-changes.changes.items (c.in_ok-changes.ensures.changes q c.in_ok-after.ensures) c.rerun.ensures.unique
 
 pub invariant_of-self-2 : goal.invariant_of-self-2
-invariant_of-self-2 c =
+invariant_of-self-2 g c =
     let e = c.requires.0 in
     let p = source_of c.self.inside.script in
     let q = source_of c.args.script.now in
@@ -87,7 +87,7 @@ invariant_of-self-2 c =
     )
 
 pub returns-clause-edits : goal.returns-clause-edits
-returns-clause-edits c e brings =
+returns-clause-edits g c e brings =
     let p = source_of c.self.inside.script in
     let q = source_of c.args.script.now in
     let l = c.self.inside.limit in
@@ -103,7 +103,7 @@ returns-clause-edits c e brings =
     (commit_edits s e t a es b refl c.self.invariant.1.fresh c.make_changes-last.new.traces.entries c.rerun.new.meter c.make_changes-last.ensures.words c.in_ok-changes.ensures.room c.in_ok-changes.ensures.counted))
 
 pub returns-clause-changes : goal.returns-clause-changes
-returns-clause-changes c =
+returns-clause-changes g c =
     let e = c.requires.0 in
     let p = source_of c.self.inside.script in
     let q = source_of c.args.script.now in
