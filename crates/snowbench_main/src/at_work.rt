@@ -18,6 +18,7 @@ pub(crate) fn start_work(rt: &HostRuntime, mut wanted: Wanted) -> Result<u8, Fai
         words: wanted.options.words.take(),
         external: String::from_str(rt.alloc(), wanted.external.as_str())?,
         from: wanted.options.from.take(),
+        stop: wanted.options.stop.take(),
     };
     let keys = random_keys(rt)?;
     let face = wanted.options.face;
