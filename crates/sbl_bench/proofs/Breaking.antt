@@ -32,7 +32,7 @@ ends s t e fault.BadLimit not h = h
 ends s t e fault.NoGrouping not h = h
 
 -- the caller has not said anything
-pub untold : {A : Type 0} (said : Bool) (f : EditFault) → f ≢ fault.BrokenOff → BreaksIfTold {A} said said (Err f)
+pub untold : {A : Type 0} (said : Bool) (f : EditFault) → f ≢ fault.BrokenOff → BreaksIfTold {A = A} said said (Err f)
 untold said fault.BrokenOff not = absurd (not refl)
 untold said fault.Present not = refl
 untold said fault.Absent not = refl
@@ -49,7 +49,7 @@ untold said fault.BadLimit not = refl
 untold said fault.NoGrouping not = refl
 
 -- the same after calls in which the caller has said nothing
-pub told_more : {A C : Type 0} (f : EditFault) (said between said_now : Bool) → between ≡ said → BreaksIfTold {C} between said_now (Err f) → BreaksIfTold {A} said said_now (Err f)
+pub told_more : {A C : Type 0} (f : EditFault) (said between said_now : Bool) → between ≡ said → BreaksIfTold {A = C} between said_now (Err f) → BreaksIfTold {A = A} said said_now (Err f)
 told_more fault.BrokenOff said between said_now same told = told
 told_more fault.Present said between said_now same told = told ∙ same
 told_more fault.Absent said between said_now same told = told ∙ same

@@ -225,7 +225,9 @@ fn runs_of<B: BreakOff>(
     traces.reserve(words.len())?;
     let mut lists = SharedLists::new(alloc);
     for word in words {
-        let last = run_of(alloc, machine, limit, meter, &mut lists, before, word, break_off)?;
+        let last = run_of(
+            alloc, machine, limit, meter, &mut lists, before, word, break_off,
+        )?;
         put(alloc, &mut traces, word, last)?;
     }
     Ok(traces)

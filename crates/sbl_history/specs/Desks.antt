@@ -109,4 +109,4 @@ Redoes result s d t e =
 abbrev pub TurnBreaksIfTold : Bool → Bool → Result (Unit {0}) HistoryFault → Type 0
 TurnBreaksIfTold said said_now (Ok u) = said_now ≡ said
 TurnBreaksIfTold said said_now (Err fault.Nothing) = said_now ≡ said
-TurnBreaksIfTold said said_now (Err (fault.Edit f)) = BreaksIfTold {Unit {0}} said said_now (Err f)
+TurnBreaksIfTold said said_now (Err (fault.Edit f)) = BreaksIfTold {A = Unit {0}} said said_now (Err f)

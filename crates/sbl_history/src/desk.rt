@@ -211,14 +211,9 @@ impl Desk {
     {
         let text = &mut self.text;
         let past = &mut self.history;
-        turn(
-            self.alloc,
-            bench,
-            text,
-            &mut past.earlier,
-            &mut past.later,
-            break_off,
-        )
+        let from = &mut past.earlier;
+        let to = &mut past.later;
+        turn(self.alloc, bench, text, from, to, break_off)
     }
 
     /// Redoes the edit that was undone last.
@@ -236,14 +231,9 @@ impl Desk {
     {
         let text = &mut self.text;
         let past = &mut self.history;
-        turn(
-            self.alloc,
-            bench,
-            text,
-            &mut past.later,
-            &mut past.earlier,
-            break_off,
-        )
+        let from = &mut past.later;
+        let to = &mut past.earlier;
+        turn(self.alloc, bench, text, from, to, break_off)
     }
 
     /// Keeps a text that was refused, in place of the last one.

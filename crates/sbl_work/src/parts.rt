@@ -145,15 +145,7 @@ fn edit_kept<B: BreakOff>(
     ensures { (line : List ℕ) (lines : List (List ℕ)) → KeepsLine kept line → HoldsText block lines → Answers bench.old desk.old (part_edit line lines) result bench.new desk.new }
 {
     match kept {
-        Ok(Some(line)) => edit_named(
-            alloc,
-            refused,
-            desk,
-            bench,
-            line.as_str(),
-            block,
-            break_off,
-        ),
+        Ok(Some(line)) => edit_named(alloc, refused, desk, bench, line.as_str(), block, break_off),
         Ok(None) => Reply::Fixed(BAD_COMMAND),
         Err(_) => edit_reply(Err(EditFault::OutOfMemory)),
     }

@@ -122,15 +122,7 @@ fn answer_alone<F: Files + AllocGlobal>(
                 &mut stop,
             ),
             Err(SaveFault::OutOfMemory) => edit_reply(Err(EditFault::OutOfMemory)),
-            Err(_) => answer_line(
-            alloc,
-            desk,
-            bench,
-            &mut folder.kept,
-            line,
-            None,
-            &mut stop,
-        ),
+            Err(_) => answer_line(alloc, desk, bench, &mut folder.kept, line, None, &mut stop),
         },
         Request::Append(path) => match append(
             folder.files,
@@ -149,15 +141,7 @@ fn answer_alone<F: Files + AllocGlobal>(
                 &mut stop,
             ),
             Err(SaveFault::OutOfMemory) => edit_reply(Err(EditFault::OutOfMemory)),
-            Err(_) => answer_line(
-            alloc,
-            desk,
-            bench,
-            &mut folder.kept,
-            line,
-            None,
-            &mut stop,
-        ),
+            Err(_) => answer_line(alloc, desk, bench, &mut folder.kept, line, None, &mut stop),
         },
         Request::Replace(path) => replace_by_file(
             folder.files,
@@ -181,15 +165,7 @@ fn answer_alone<F: Files + AllocGlobal>(
         ),
         Request::TokensOf(path) => tokens_by_file(folder.files, alloc, path),
         Request::FaultsOf(path) => faults_by_file(folder.files, alloc, bench, path),
-        _ => answer_line(
-            alloc,
-            desk,
-            bench,
-            &mut folder.kept,
-            line,
-            None,
-            &mut stop,
-        ),
+        _ => answer_line(alloc, desk, bench, &mut folder.kept, line, None, &mut stop),
     }
 }
 

@@ -39,4 +39,3 @@ returns-in-None-clause-counted g c =
     let es = c.args.before.now.entries in
     let one = one_run_of (words_in es) c.args.word.now (not_there c.args.word.now es c.in-None.ensures.value) in
     on_ok_weaker c.run_or_break.result (λ e. e ∙ ap (λ (n : ℕ). c.args.meter.now + n) (sym one)) c.run_or_break.ensures.counted
-
