@@ -4,8 +4,8 @@ import os
 import re
 from typing import NamedTuple, Optional, Sequence
 
-HAS = "It has --watch, --rows, --text, --color WHEN, --no-pager, --external NAME and --from TEXT"
-FLAGS, VALUES = ("--watch", "--no-pager", "--rows", "--text"), ("--program", "--color", "--external", "--from")
+HAS = "It has --watch, --rows, --text, --color WHEN, --no-pager, --external NAME, --from TEXT and --stop FILE"
+FLAGS, VALUES = ("--watch", "--no-pager", "--rows", "--text"), ("--program", "--color", "--external", "--from", "--stop")
 THIRD = "Stems are for mark FILE and families for families FILE, at its prompt"
 COMMANDS_COME = "Its standard input has the commands"
 # How the reader calls the launcher.
@@ -55,7 +55,7 @@ def options_of(given: Sequence[str]) -> Options:
         if is_wrong:
             raise Misuse(why)
     passed = [word for word in ("--rows", "--text") if word in found]
-    passed += [part for key in ("--external", "--from") if key in found for part in (key, found[key])]
+    passed += [part for key in ("--external", "--from", "--stop") if key in found for part in (key, found[key])]
     return Options(
         found.get("--program") or usual_program(), files[0], "".join(files[1:]) or None,
         "--watch" in found, "--no-pager" not in found, color, "--rows" in found, passed

@@ -19,7 +19,7 @@ from .program import DONE, LONGEST, encoded
 
 DEFINITION = re.compile(r"\s*define\s+([A-Za-z][A-Za-z0-9_]*)\s+(as(?=\s|$))?")
 TO_FILE = re.compile(r"(.*\S)\s+>\s*(\S+)\s*\Z")
-USAGE = "usage: %s work [--watch] [--rows | --text] [--color WHEN] [--no-pager] [--external NAME] [--from TEXT] SCRIPT [WORDS]" % options.CALLED
+USAGE = "usage: %s work [--watch] [--rows | --text] [--color WHEN] [--no-pager] [--external NAME] [--from TEXT] [--stop FILE] SCRIPT [WORDS]" % options.CALLED
 # Replies that are not broken, since an author wrote them.
 TEXTS = ("script", "show", "echo", "events")
 # By report how many of its last lines are figures.
@@ -370,8 +370,9 @@ def main(given: Sequence[str]) -> int:
         sys.stderr.buffer.write("".join(line + "\n" for line in said).encode("utf-8", "replace"))
         sys.stderr.flush()
         os.execv(found.program, [found.program, "work", *found.passed, "--", *files])
-    if "--from" in found.passed:
-        print("snowbench: --from is for programs: at a terminal it needs --rows", file=sys.stderr)
-        return 2
+    for option in ("--from", "--stop"):
+        if option in found.passed:
+            print("snowbench: %s is for programs: at a terminal it needs --rows" % option, file=sys.stderr)
+            return 2
     command = [found.program, "work", "--text", *(word for word in found.passed if word != "--text")]
     return Terminal(Bench(command, found.script, found.words, kept.Kept(kept.home(), found.script)), found).run()

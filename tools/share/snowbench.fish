@@ -32,6 +32,7 @@ complete -c snowbench -n '__fish_seen_subcommand_from work' -l no-pager -d 'at a
 complete -c snowbench -n '__fish_seen_subcommand_from work' -l rows -d 'rows and no prompt, also at a terminal'
 complete -c snowbench -n '__fish_seen_subcommand_from work' -l text -d 'in a pipe: the places of faults, too, on standard error'
 complete -c snowbench -n '__fish_seen_subcommand_from work' -l from -x -d 'with --rows or in a pipe: begin with the script in this file; reload and save mean SCRIPT'
+complete -c snowbench -n '__fish_seen_subcommand_from work' -l stop -x -d 'with --rows or in a pipe: break an edit off if this file exists'
 complete -c snowbench -n '__fish_seen_subcommand_from work' -l help -d 'show what work takes'
 complete -c snowbench -n '__fish_seen_subcommand_from work' -F
 complete -c snowbench -n '__fish_seen_subcommand_from run' -l external -x -d 'run this external of the script; without it, stem'
