@@ -12,26 +12,26 @@ use Rattle.sbl_sessions.specs.EditFaults.{fault_in}
 use Rattle.sbl_sessions.specs.declared.replies.Reply.TheVariants as reply
 use Rattle.sbl_sessions.proofs.EditFacts.{answer_of_edit}
 
-ended : (r : Result (Unit {0}) EditFault) (s t : Contents) (n : ℕ) (text : Bor (List ℕ)) → Edits r s (Limit n) t → text.now ≡ edit_text (fault_in r)
+plain_answer : (r : Result (Unit {0}) EditFault) (s t : Contents) (n : ℕ) (text : Bor (List ℕ)) → Edits r s (Limit n) t → text.now ≡ edit_text (fault_in r)
     → IsAnswer s (Makes (Limit n)) (reply.Fixed text) t
-ended r s t n text h told =
+plain_answer r s t n text h told =
     let a : IsEditAnswer s (Limit n) text.now t = subst (λ (x : List ℕ). IsEditAnswer s (Limit n) x t) (sym told) (answer_of_edit r s t (Limit n) h) in
     (a.0, text.now, refl, a.1)
 
 pub limit_answer : (r : Result (Unit {0}) EditFault) (s t : Contents) (n : ℕ) (said said_now : Bool) (text : Bor (List ℕ)) → BreaksIfTold said said_now r
     → EditsOrBreaks r s (Limit n) t → text.now ≡ edit_text (fault_in r) → IsAnswerOrBreak said said_now s (Makes (Limit n)) (reply.Fixed text) t
-limit_answer (Ok u) s t n said said_now text asked h told = inl (asked, ended (Ok u) s t n text h told)
+limit_answer (Ok u) s t n said said_now text asked h told = inl (asked, plain_answer (Ok u) s t n text h told)
 limit_answer (Err fault.BrokenOff) s t n said said_now text asked h told = inr (asked, (text.now, refl, (n, refl, h, told)))
-limit_answer (Err fault.Present) s t n said said_now text asked h told = inl (asked, ended (Err fault.Present) s t n text h told)
-limit_answer (Err fault.Absent) s t n said said_now text asked h told = inl (asked, ended (Err fault.Absent) s t n text h told)
-limit_answer (Err fault.EmptyWord) s t n said said_now text asked h told = inl (asked, ended (Err fault.EmptyWord) s t n text h told)
-limit_answer (Err fault.WordTooLong) s t n said said_now text asked h told = inl (asked, ended (Err fault.WordTooLong) s t n text h told)
-limit_answer (Err fault.Full) s t n said said_now text asked h told = inl (asked, ended (Err fault.Full) s t n text h told)
-limit_answer (Err fault.NoRoutine) s t n said said_now text asked h told = inl (asked, ended (Err fault.NoRoutine) s t n text h told)
-limit_answer (Err fault.NoAmong) s t n said said_now text asked h told = inl (asked, ended (Err fault.NoAmong) s t n text h told)
-limit_answer (Err fault.AmongCount) s t n said said_now text asked h told = inl (asked, ended (Err fault.AmongCount) s t n text h told)
-limit_answer (Err (fault.Script f)) s t n said said_now text asked h told = inl (asked, ended (Err (fault.Script f)) s t n text h told)
-limit_answer (Err fault.OutOfMemory) s t n said said_now text asked h told = inl (asked, ended (Err fault.OutOfMemory) s t n text h told)
-limit_answer (Err fault.MeterFull) s t n said said_now text asked h told = inl (asked, ended (Err fault.MeterFull) s t n text h told)
-limit_answer (Err fault.BadLimit) s t n said said_now text asked h told = inl (asked, ended (Err fault.BadLimit) s t n text h told)
-limit_answer (Err fault.NoGrouping) s t n said said_now text asked h told = inl (asked, ended (Err fault.NoGrouping) s t n text h told)
+limit_answer (Err fault.Present) s t n said said_now text asked h told = inl (asked, plain_answer (Err fault.Present) s t n text h told)
+limit_answer (Err fault.Absent) s t n said said_now text asked h told = inl (asked, plain_answer (Err fault.Absent) s t n text h told)
+limit_answer (Err fault.EmptyWord) s t n said said_now text asked h told = inl (asked, plain_answer (Err fault.EmptyWord) s t n text h told)
+limit_answer (Err fault.WordTooLong) s t n said said_now text asked h told = inl (asked, plain_answer (Err fault.WordTooLong) s t n text h told)
+limit_answer (Err fault.Full) s t n said said_now text asked h told = inl (asked, plain_answer (Err fault.Full) s t n text h told)
+limit_answer (Err fault.NoRoutine) s t n said said_now text asked h told = inl (asked, plain_answer (Err fault.NoRoutine) s t n text h told)
+limit_answer (Err fault.NoAmong) s t n said said_now text asked h told = inl (asked, plain_answer (Err fault.NoAmong) s t n text h told)
+limit_answer (Err fault.AmongCount) s t n said said_now text asked h told = inl (asked, plain_answer (Err fault.AmongCount) s t n text h told)
+limit_answer (Err (fault.Script f)) s t n said said_now text asked h told = inl (asked, plain_answer (Err (fault.Script f)) s t n text h told)
+limit_answer (Err fault.OutOfMemory) s t n said said_now text asked h told = inl (asked, plain_answer (Err fault.OutOfMemory) s t n text h told)
+limit_answer (Err fault.MeterFull) s t n said said_now text asked h told = inl (asked, plain_answer (Err fault.MeterFull) s t n text h told)
+limit_answer (Err fault.BadLimit) s t n said said_now text asked h told = inl (asked, plain_answer (Err fault.BadLimit) s t n text h told)
+limit_answer (Err fault.NoGrouping) s t n said said_now text asked h told = inl (asked, plain_answer (Err fault.NoGrouping) s t n text h told)
