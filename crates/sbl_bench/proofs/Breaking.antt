@@ -1,5 +1,5 @@
 -- Edits that may be broken off, and the plain ones that stand on them.
-use Rattle.std.proofs.Common.{◌≡◌, ◌≢◌, ◌<◌, ◌≤◌, ◌+◌, ◌-◌, ◌∙◌, ◌⊎◌, ℕ, Bool, true, false, nat_le, nat_lt, cond, List, [], ◌∷◌, length, Option, Some, None, Result, Ok, Err, IfErr, inl, inr, arith, refl, sym, subst}
+use Rattle.std.proofs.Common.{◌≡◌, ◌≢◌, ◌<◌, ◌≤◌, ◌+◌, ◌-◌, ◌∙◌, ◌⊎◌, ◌||◌, ℕ, Bool, true, false, nat_le, nat_lt, cond, List, [], ◌∷◌, length, Option, Some, None, Result, Ok, Err, IfErr, inl, inr, arith, refl, sym, subst}
 use Rattle.std.specs.Option.{option_or}
 use Rattle.sbl_script.specs.declared.edit_fault.EditFault as declared
 use Rattle.sbl_script.specs.declared.edit_fault.EditFault.TheVariants as script
@@ -32,7 +32,7 @@ ends s t e fault.BadLimit not h = h
 ends s t e fault.NoGrouping not h = h
 
 -- the caller has not said anything
-pub untold : {A : Type 0} (said : Bool) (f : EditFault) → f ≢ fault.BrokenOff → BreaksIfTold {A = A} said said (Err f)
+pub untold : (said : Bool) (f : EditFault) → f ≢ fault.BrokenOff → BreaksIfTold said said f
 untold said fault.BrokenOff not = absurd (not refl)
 untold said fault.Present not = refl
 untold said fault.Absent not = refl
@@ -49,7 +49,7 @@ untold said fault.BadLimit not = refl
 untold said fault.NoGrouping not = refl
 
 -- the same after calls in which the caller has said nothing
-pub told_more : {A C : Type 0} (f : EditFault) (said between said_now : Bool) → between ≡ said → BreaksIfTold {A = C} between said_now (Err f) → BreaksIfTold {A = A} said said_now (Err f)
+pub told_more : (f : EditFault) (said between said_now : Bool) → between ≡ said → BreaksIfTold between said_now f → BreaksIfTold said said_now f
 told_more fault.BrokenOff said between said_now same told = told
 told_more fault.Present said between said_now same told = told ∙ same
 told_more fault.Absent said between said_now same told = told ∙ same
@@ -65,10 +65,19 @@ told_more fault.MeterFull said between said_now same told = told ∙ same
 told_more fault.BadLimit said between said_now same told = told ∙ same
 told_more fault.NoGrouping said between said_now same told = told ∙ same
 
+-- what the caller has said after one more question
+pub says_yes : (said said_now answer : Bool) → said_now ≡ (said || answer) → answer ≡ true → said_now ≡ true
+says_yes true said_now answer is yes = is
+says_yes false said_now answer is yes = is ∙ yes
+
+pub says_no : (said said_now answer : Bool) → said_now ≡ (said || answer) → answer ≡ false → said_now ≡ said
+says_no true said_now answer is no = is
+says_no false said_now answer is no = is ∙ no
+
 -- an edit whose caller never says so
-pub plain : (r : Result (Unit {0}) EditFault) (s t : Contents) (e : Edit) → BreaksIfTold false false r → EditsOrBreaks r s e t → Edits r s e t
+pub plain : (r : Result (Unit {0}) EditFault) (s t : Contents) (e : Edit) → IfErr r (λ f. BreaksIfTold false false f) → EditsOrBreaks r s e t → Edits r s e t
 plain (Ok u) s t e told h = h
-plain (Err fault.BrokenOff) s t e told h = cc
+plain (Err fault.BrokenOff) s t e told h = cc told
 plain (Err fault.Present) s t e told h = h
 plain (Err fault.Absent) s t e told h = h
 plain (Err fault.EmptyWord) s t e told h = h

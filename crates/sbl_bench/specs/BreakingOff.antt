@@ -20,9 +20,8 @@ EditsOrBreaks (Ok u) s e t = Edits (Ok u) s e t
 EditsOrBreaks (Err fault.BrokenOff) s e t = IsBrokenOff s e t
 EditsOrBreaks (Err f) s e t = Edits (Err f) s e t
 
--- Whether the caller has said that the edit should be broken off, before and after a call with this result: the call is broken off
--- exactly if the caller said so in it.
-abbrev pub BreaksIfTold : {A : Type 0} → Bool → Bool → Result A EditFault → Type 0
-BreaksIfTold said said_now (Ok a) = said_now ≡ said
-BreaksIfTold said said_now (Err fault.BrokenOff) = said_now ≡ true
-BreaksIfTold said said_now (Err f) = said_now ≡ said
+-- Whether the caller has said that the edit should be broken off, before and after a call that ends with this fault: it is `BrokenOff`
+-- only if the caller said so in the call.
+abbrev pub BreaksIfTold : Bool → Bool → EditFault → Type 0
+BreaksIfTold said said_now fault.BrokenOff = said_now ≡ true
+BreaksIfTold said said_now f = said_now ≡ said

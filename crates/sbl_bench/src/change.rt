@@ -112,7 +112,8 @@ fn run_words<B: BreakOff>(
     ensures changes { (s : Source) → IsLinkedMachineOf machine.now s → IfOk result (λ changes. map view_change changes.items ≡ reruns (under s limit) (map (λ w. w.now) words.now)) }
     ensures counted { OnOk result (meter.new ≡ meter.old + length words.now) }
     ensures cut { IfErr result (λ f. IsCut (length words.now) f meter.old meter.new) }
-    ensures asked { BreaksIfTold (B.said break_off.old) (B.said break_off.new) result }
+    ensures untold { OnOk result (B.said break_off.new ≡ B.said break_off.old) }
+    ensures told { IfErr result (λ f. BreaksIfTold (B.said break_off.old) (B.said break_off.new) f) }
 {
     let mut changes = Vec::new(alloc);
     let mut lists = SharedLists::new(alloc);
@@ -144,13 +145,15 @@ pub(crate) fn rerun<B: BreakOff>(
     ensures room { OnOk result (length (spec.met_words (affected_of affected.now) traces.now.entries) ≤ max_runs - meter.old) }
     ensures stop { IfErr result (λ f. IsStopOf (length (spec.met_words (affected_of affected.now) traces.now.entries)) f meter.old meter.new) }
     ensures unique { IsUnique same_text traces.now }
-    ensures asked { BreaksIfTold (B.said break_off.old) (B.said break_off.new) result }
+    ensures untold { OnOk result (B.said break_off.new ≡ B.said break_off.old) }
+    ensures told { IfErr result (λ f. BreaksIfTold (B.said break_off.old) (B.said break_off.new) f) }
 {
     let words = met_words(alloc, affected, traces)?;
     if u64::MAX - meter.count() < words.len() as u64 {
         return Err(EditFault::MeterFull);
     }
-    run_words(alloc, machine, limit, &words, meter, break_off)
+    let changes = run_words(alloc, machine, limit, &words, meter, break_off)?;
+    Ok(changes)
 }
 
 /// Applies the changes of an edit, and returns them with the runs before. Does not allocate.

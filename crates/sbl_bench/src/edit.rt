@@ -1,6 +1,6 @@
 //! Edits of a bench.
 
-ghost use Rattle.std.specs.Prelude.{◌≡◌, ◌≤◌, ◌<◌, ◌+◌, ◌^◌, ℕ, List, MatchOption, IfOk, true, false};
+ghost use Rattle.std.specs.Prelude.{◌≡◌, ◌≤◌, ◌<◌, ◌+◌, ◌^◌, ℕ, List, MatchOption, IfErr, IfOk, OnOk, true, false};
 ghost use Rattle.sbl_bench.specs.Edits.{is_limit};
 ghost use Rattle.sbl_machine.specs.EditedItem.{edited_item};
 ghost use Rattle.sbl_script.specs.Parts.{view_part};
@@ -129,7 +129,8 @@ impl Bench {
     ) -> Result<(), EditFault>
         ensures edits { EditsOrBreaks result (contents_of self.old) (Replace (view_part part.entry) text.now) (contents_of self.new) }
         ensures changes { LeavesChanges result self.old self.new }
-        ensures asked { BreaksIfTold (B.said break_off.old) (B.said break_off.new) result }
+        ensures untold { OnOk result (B.said break_off.new ≡ B.said break_off.old) }
+        ensures told { IfErr result (λ f. BreaksIfTold (B.said break_off.old) (B.said break_off.new) f) }
     {
         let script = self.script.with(self.alloc, part, text)?;
         let item = item_at(self.alloc, part)?;
@@ -189,7 +190,8 @@ impl Bench {
     ) -> Result<(), EditFault>
         ensures edits { EditsOrBreaks result (contents_of self.old) (Limit number) (contents_of self.new) }
         ensures changes { LeavesChanges result self.old self.new }
-        ensures asked { BreaksIfTold (B.said break_off.old) (B.said break_off.new) result }
+        ensures untold { OnOk result (B.said break_off.new ≡ B.said break_off.old) }
+        ensures told { IfErr result (λ f. BreaksIfTold (B.said break_off.old) (B.said break_off.new) f) }
     {
         let Some(limit) = limit_of(number) else {
             return Err(EditFault::BadLimit);
@@ -249,7 +251,8 @@ impl Bench {
     ) -> Result<(), EditFault>
         ensures edits { EditsOrBreaks result (contents_of self.old) (Whole text.now) (contents_of self.new) }
         ensures changes { LeavesChanges result self.old self.new }
-        ensures asked { BreaksIfTold (B.said break_off.old) (B.said break_off.new) result }
+        ensures untold { OnOk result (B.said break_off.new ≡ B.said break_off.old) }
+        ensures told { IfErr result (λ f. BreaksIfTold (B.said break_off.old) (B.said break_off.new) f) }
     {
         let mut script = Script::parse(self.alloc, text, self.script.external())?;
         self.exchange(&mut script, break_off)
@@ -265,7 +268,8 @@ impl Bench {
         requires { (e : ScriptEdit) × (text : List ℕ) × IsTaken (contents_of self.old) e text (source_of script) (item_of item.now) }
         ensures edits { (e : ScriptEdit) (text : List ℕ) → IsTaken (contents_of self.old) e text (source_of script) (item_of item.now) → EditsOrBreaks result (contents_of self.old) (Replace e text) (contents_of self.new) }
         ensures changes { LeavesChanges result self.old self.new }
-        ensures asked { BreaksIfTold (B.said break_off.old) (B.said break_off.new) result }
+        ensures untold { OnOk result (B.said break_off.new ≡ B.said break_off.old) }
+        ensures told { IfErr result (λ f. BreaksIfTold (B.said break_off.old) (B.said break_off.new) f) }
     {
         edits_agree();
         untouched_stay();
@@ -286,7 +290,8 @@ impl Bench {
         requires { (e : Edit) × IsExchange (contents_of self.old) e (source_of script.old) }
         ensures edits { (e : Edit) → IsExchange (contents_of self.old) e (source_of script.old) → EditsOrBreaks result (contents_of self.old) e (contents_of self.new) }
         ensures changes { LeavesChanges result self.old self.new }
-        ensures asked { BreaksIfTold (B.said break_off.old) (B.said break_off.new) result }
+        ensures untold { OnOk result (B.said break_off.new ≡ B.said break_off.old) }
+        ensures told { IfErr result (λ f. BreaksIfTold (B.said break_off.old) (B.said break_off.new) f) }
     {
         differing_stay();
         is_well_declared(&self.script);
@@ -311,7 +316,8 @@ impl Bench {
         requires { (e : Edit) × Brings (contents_of self.old) e (under (source_of script.old) self.old.limit) (affected_of affected.now) }
         ensures edits { (e : Edit) → Brings (contents_of self.old) e (under (source_of script.old) self.old.limit) (affected_of affected.now) → EditsOrBreaks result (contents_of self.old) e (contents_of self.new) }
         ensures changes { LeavesChanges result self.old self.new }
-        ensures asked { BreaksIfTold (B.said break_off.old) (B.said break_off.new) result }
+        ensures untold { OnOk result (B.said break_off.new ≡ B.said break_off.old) }
+        ensures told { IfErr result (λ f. BreaksIfTold (B.said break_off.old) (B.said break_off.new) f) }
     {
         let after = Machine::new(self.alloc, script)?;
         let changes = rerun(

@@ -55,7 +55,8 @@ pub(crate) fn run_or_break<B: BreakOff>(
     ensures fresh { (s : Source) → IsLinkedMachineOf machine.now s → IfOk result (λ run. IsFresh (under s limit) word.now run) }
     ensures counted { OnOk result (meter.new ≡ meter.old + 1) }
     ensures cut { IfErr result (λ f. IsCut 1 f meter.old meter.new) }
-    ensures asked { BreaksIfTold (B.said break_off.old) (B.said break_off.new) result }
+    ensures untold { OnOk result (B.said break_off.new ≡ B.said break_off.old) }
+    ensures told { IfErr result (λ f. BreaksIfTold (B.said break_off.old) (B.said break_off.new) f) }
 {
     if break_off.is_wanted() {
         return Err(EditFault::BrokenOff);

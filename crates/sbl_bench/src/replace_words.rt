@@ -65,7 +65,8 @@ impl Bench {
     ) -> Result<(), EditFault>
         ensures edits { EditsOrBreaks result (contents_of self.old) (Words (map (λ w. w.items) words.now)) (contents_of self.new) }
         ensures changes { LeavesChanges result self.old self.new }
-        ensures asked { BreaksIfTold (B.said break_off.old) (B.said break_off.new) result }
+        ensures untold { OnOk result (B.said break_off.new ≡ B.said break_off.old) }
+        ensures told { IfErr result (λ f. BreaksIfTold (B.said break_off.old) (B.said break_off.new) f) }
     {
         let list = vocabulary_of(self.alloc, words)?;
         let traces = make_traces(
@@ -176,7 +177,8 @@ fn run_of<B: BreakOff>(
     ensures fresh { (s : Source) → IsLinkedMachineOf machine.now s → AreFresh (under s limit) before.now.entries → IfOk result (λ run. IsFresh (under s limit) word.now run) }
     ensures counted { OnOk result (meter.new ≡ meter.old + runs_of_word (words_in before.now.entries) word.now) }
     ensures cut { IfErr result (λ f. IsCut (runs_of_word (words_in before.now.entries) word.now) f meter.old meter.new) }
-    ensures asked { BreaksIfTold (B.said break_off.old) (B.said break_off.new) result }
+    ensures untold { OnOk result (B.said break_off.new ≡ B.said break_off.old) }
+    ensures told { IfErr result (λ f. BreaksIfTold (B.said break_off.old) (B.said break_off.new) f) }
 {
     match before.get(word) {
         Some(last) => match last.copy(alloc) {
@@ -219,7 +221,8 @@ fn runs_of<B: BreakOff>(
     ensures fresh { (s : Source) → IsLinkedMachineOf machine.now s → AreFresh (under s limit) before.now.entries → IfOk result (λ traces. AreFresh (under s limit) traces.entries) }
     ensures counted { OnOk result (meter.new ≡ meter.old + length (new_words (words_in before.now.entries) (texts_of words.now))) }
     ensures cut { IfErr result (λ f. IsCut (length (new_words (words_in before.now.entries) (texts_of words.now))) f meter.old meter.new) }
-    ensures asked { BreaksIfTold (B.said break_off.old) (B.said break_off.new) result }
+    ensures untold { OnOk result (B.said break_off.new ≡ B.said break_off.old) }
+    ensures told { IfErr result (λ f. BreaksIfTold (B.said break_off.old) (B.said break_off.new) f) }
 {
     let mut traces = IndexMap::with_hasher(alloc, *before.hasher());
     traces.reserve(words.len())?;
@@ -254,10 +257,12 @@ fn make_traces<B: BreakOff>(
     ensures counted { OnOk result (meter.new ≡ meter.old + length (new_words (words_in before.now.entries) (texts_of words.now))) }
     ensures room { OnOk result (length (new_words (words_in before.now.entries) (texts_of words.now)) ≤ max_runs - meter.old) }
     ensures stop { IfErr result (λ f. IsStopOf (length (new_words (words_in before.now.entries) (texts_of words.now))) f meter.old meter.new) }
-    ensures asked { BreaksIfTold (B.said break_off.old) (B.said break_off.new) result }
+    ensures untold { OnOk result (B.said break_off.new ≡ B.said break_off.old) }
+    ensures told { IfErr result (λ f. BreaksIfTold (B.said break_off.old) (B.said break_off.new) f) }
 {
     if u64::MAX - meter.count() < count_new(before, words) as u64 {
         return Err(EditFault::MeterFull);
     }
-    runs_of(alloc, machine, limit, meter, before, words, break_off)
+    let traces = runs_of(alloc, machine, limit, meter, before, words, break_off)?;
+    Ok(traces)
 }

@@ -105,8 +105,7 @@ abbrev pub Redoes : Result (Unit {0}) HistoryFault → Contents → State → Co
 Redoes result s d t e =
     Turns result s t d.text e.text d.past.later d.past.earlier e.past.later e.past.earlier × (e.marked ≡ d.marked) × (e.refused ≡ d.refused)
 
--- it is broken off exactly if the caller said so in the call
-abbrev pub TurnBreaksIfTold : Bool → Bool → Result (Unit {0}) HistoryFault → Type 0
-TurnBreaksIfTold said said_now (Ok u) = said_now ≡ said
-TurnBreaksIfTold said said_now (Err fault.Nothing) = said_now ≡ said
-TurnBreaksIfTold said said_now (Err (fault.Edit f)) = BreaksIfTold {A = Unit {0}} said said_now (Err f)
+-- the fault is that of an edit that was broken off only if the caller said so in the call
+abbrev pub TurnBreaksIfTold : Bool → Bool → HistoryFault → Type 0
+TurnBreaksIfTold said said_now fault.Nothing = said_now ≡ said
+TurnBreaksIfTold said said_now (fault.Edit f) = BreaksIfTold said said_now f

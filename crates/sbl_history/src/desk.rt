@@ -1,6 +1,6 @@
 //! A desk: what is kept beside a bench at work, so that its edits can be undone and its rows compared with those at a mark.
 ghost use Rattle.std.specs.Option.{option_map};
-ghost use Rattle.std.specs.Prelude.{◌≡◌, ℕ, List, [], IfOk, IfSome, OnErr, OnOk, None, Some, length, map, string_bytes, true};
+ghost use Rattle.std.specs.Prelude.{◌≡◌, ℕ, List, [], IfErr, IfOk, IfSome, OnErr, OnOk, None, Some, length, map, string_bytes, true};
 ghost use Rattle.sbl_bench.specs.Contents.{rows_now};
 ghost use Rattle.sbl_bench.specs.BreakingOff.{BreaksIfTold};
 ghost use Rattle.sbl_bench.specs.Edits.{Whole};
@@ -157,7 +157,8 @@ impl Desk {
         break_off: &mut B,
     ) -> Result<(), EditFault>
         ensures replaces { Replaces result OfScript (Whole text.now) (Some text.now) (contents_of bench.old) (state_of self.old) (contents_of bench.new) (state_of self.new) }
-        ensures asked { BreaksIfTold (B.said break_off.old) (B.said break_off.new) result }
+        ensures untold { OnOk result (B.said break_off.new ≡ B.said break_off.old) }
+        ensures told { IfErr result (λ f. BreaksIfTold (B.said break_off.old) (B.said break_off.new) f) }
     {
         let kept = Vec::from_slice(self.alloc, text)?;
         let before = self.before(bench)?;
@@ -182,7 +183,8 @@ impl Desk {
         break_off: &mut B,
     ) -> Result<(), EditFault>
         ensures replaces { ReplacesPart result (view_part part.entry) text.now (contents_of bench.old) (state_of self.old) (contents_of bench.new) (state_of self.new) }
-        ensures asked { BreaksIfTold (B.said break_off.old) (B.said break_off.new) result }
+        ensures untold { OnOk result (B.said break_off.new ≡ B.said break_off.old) }
+        ensures told { IfErr result (λ f. BreaksIfTold (B.said break_off.old) (B.said break_off.new) f) }
     {
         let kind = HeldKind::of_part(self.alloc, part)?;
         let before = self.before(bench)?;
@@ -207,7 +209,8 @@ impl Desk {
         break_off: &mut B,
     ) -> Result<(), HistoryFault>
         ensures turns { Undoes result (contents_of bench.old) (state_of self.old) (contents_of bench.new) (state_of self.new) }
-        ensures asked { TurnBreaksIfTold (B.said break_off.old) (B.said break_off.new) result }
+        ensures untold { OnOk result (B.said break_off.new ≡ B.said break_off.old) }
+        ensures told { IfErr result (λ f. TurnBreaksIfTold (B.said break_off.old) (B.said break_off.new) f) }
     {
         let text = &mut self.text;
         let past = &mut self.history;
@@ -227,7 +230,8 @@ impl Desk {
         break_off: &mut B,
     ) -> Result<(), HistoryFault>
         ensures turns { Redoes result (contents_of bench.old) (state_of self.old) (contents_of bench.new) (state_of self.new) }
-        ensures asked { TurnBreaksIfTold (B.said break_off.old) (B.said break_off.new) result }
+        ensures untold { OnOk result (B.said break_off.new ≡ B.said break_off.old) }
+        ensures told { IfErr result (λ f. TurnBreaksIfTold (B.said break_off.old) (B.said break_off.new) f) }
     {
         let text = &mut self.text;
         let past = &mut self.history;

@@ -1,5 +1,5 @@
 //! The edits that can be undone and redone.
-ghost use Rattle.std.specs.Prelude.{◌≡◌, ◌≤◌, ◌<◌, ◌+◌, ◌-◌, ◌++◌, ◌∷◌, [], Some, drop, length, map, IfOk, OnOk, OnErr, vec_len, vec_capacity};
+ghost use Rattle.std.specs.Prelude.{◌≡◌, ◌≤◌, ◌<◌, ◌+◌, ◌-◌, ◌++◌, ◌∷◌, [], Some, drop, length, map, IfErr, IfOk, OnOk, OnErr, vec_len, vec_capacity};
 ghost use Rattle.sbl_bench.specs.BreakingOff.{BreaksIfTold, EditsOrBreaks};
 ghost use Rattle.sbl_bench.specs.KeptRuns.{contents_of};
 ghost use Rattle.sbl_history.specs.Desks.{TurnBreaksIfTold, Turns, back, past_of, text_after, text_in, view_edit, view_edits, view_step, view_text};
@@ -87,7 +87,8 @@ pub(crate) fn turn<B: BreakOff>(
     ensures few { vec_len from.new + vec_len to.new ≡ vec_len from.old + vec_len to.old }
     ensures room { vec_capacity from.new ≡ vec_capacity from.old }
     ensures to_room { vec_capacity to.new ≡ vec_capacity to.old }
-    ensures asked { TurnBreaksIfTold (B.said break_off.old) (B.said break_off.new) result }
+    ensures untold { OnOk result (B.said break_off.new ≡ B.said break_off.old) }
+    ensures told { IfErr result (λ f. TurnBreaksIfTold (B.said break_off.old) (B.said break_off.new) f) }
 {
     let Some(mut edit) = from.pop() else {
         return Err(HistoryFault::Nothing);
@@ -115,7 +116,8 @@ fn exchange<B: BreakOff>(
     ensures edits { EditsOrBreaks result (contents_of bench.old) (edit_of (view_step step.old)) (contents_of bench.new) }
     ensures exchanged { OnOk result ((view_step step.new ≡ back (contents_of bench.old) (view_text text.old) (view_step step.old)) × (view_text text.new ≡ text_after (view_text text.old) (view_step step.old))) }
     ensures kept { OnErr result ((step.new ≡ step.old) × (text.new ≡ text.old)) }
-    ensures asked { BreaksIfTold (B.said break_off.old) (B.said break_off.new) result }
+    ensures untold { OnOk result (B.said break_off.new ≡ B.said break_off.old) }
+    ensures told { IfErr result (λ f. BreaksIfTold (B.said break_off.old) (B.said break_off.new) f) }
 {
     match step {
         Step::Text(other) => exchange_text(alloc, bench, text, other, break_off),
@@ -135,7 +137,8 @@ fn exchange_text<B: BreakOff>(
     ensures edits { EditsOrBreaks result (contents_of bench.old) (edit_of (ToText other.old.items)) (contents_of bench.new) }
     ensures exchanged { OnOk result ((other.new.items ≡ text_in (contents_of bench.old) (view_text text.old)) × (view_text text.new ≡ Some other.old.items)) }
     ensures kept { OnErr result ((other.new ≡ other.old) × (text.new ≡ text.old)) }
-    ensures asked { BreaksIfTold (B.said break_off.old) (B.said break_off.new) result }
+    ensures untold { OnOk result (B.said break_off.new ≡ B.said break_off.old) }
+    ensures told { IfErr result (λ f. BreaksIfTold (B.said break_off.old) (B.said break_off.new) f) }
 {
     let before = text_of(alloc, bench, text)?;
     bench.replace_script_or_break(other, break_off)?;
@@ -152,7 +155,8 @@ fn exchange_limit<B: BreakOff>(
     ensures edits { EditsOrBreaks result (contents_of bench.old) (edit_of (ToLimit limit.old)) (contents_of bench.new) }
     ensures exchanged { OnOk result (limit.new ≡ (contents_of bench.old).setting.limit) }
     ensures kept { OnErr result (limit.new ≡ limit.old) }
-    ensures asked { BreaksIfTold (B.said break_off.old) (B.said break_off.new) result }
+    ensures untold { OnOk result (B.said break_off.new ≡ B.said break_off.old) }
+    ensures told { IfErr result (λ f. BreaksIfTold (B.said break_off.old) (B.said break_off.new) f) }
 {
     let before = bench.limit();
     bench.set_limit_or_break(u64::from(*limit), break_off)?;

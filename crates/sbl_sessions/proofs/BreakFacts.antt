@@ -1,5 +1,5 @@
 -- The reply to a limit that may be broken off.
-use Rattle.std.proofs.Common.{◌≡◌, ℕ, Bool, List, Bor, Some, Result, Ok, Err, inl, inr, refl, subst, sym}
+use Rattle.std.proofs.Common.{◌≡◌, ℕ, Bool, List, Bor, Some, Result, Ok, Err, OnOk, IfErr, inl, inr, refl, subst, sym}
 use Rattle.sbl_bench.specs.BreakingOff.{BreaksIfTold, EditsOrBreaks}
 use Rattle.sbl_bench.specs.Contents.{Contents}
 use Rattle.sbl_bench.specs.Edits.{Edits, Limit}
@@ -18,20 +18,20 @@ plain_answer r s t n text h told =
     let a : IsEditAnswer s (Limit n) text.now t = subst (λ (x : List ℕ). IsEditAnswer s (Limit n) x t) (sym told) (answer_of_edit r s t (Limit n) h) in
     (a.0, text.now, refl, a.1)
 
-pub limit_answer : (r : Result (Unit {0}) EditFault) (s t : Contents) (n : ℕ) (said said_now : Bool) (text : Bor (List ℕ)) → BreaksIfTold said said_now r
-    → EditsOrBreaks r s (Limit n) t → text.now ≡ edit_text (fault_in r) → IsAnswerOrBreak said said_now s (Makes (Limit n)) (reply.Fixed text) t
-limit_answer (Ok u) s t n said said_now text asked h told = inl (asked, plain_answer (Ok u) s t n text h told)
-limit_answer (Err fault.BrokenOff) s t n said said_now text asked h told = inr (asked, (text.now, refl, (n, refl, h, told)))
-limit_answer (Err fault.Present) s t n said said_now text asked h told = inl (asked, plain_answer (Err fault.Present) s t n text h told)
-limit_answer (Err fault.Absent) s t n said said_now text asked h told = inl (asked, plain_answer (Err fault.Absent) s t n text h told)
-limit_answer (Err fault.EmptyWord) s t n said said_now text asked h told = inl (asked, plain_answer (Err fault.EmptyWord) s t n text h told)
-limit_answer (Err fault.WordTooLong) s t n said said_now text asked h told = inl (asked, plain_answer (Err fault.WordTooLong) s t n text h told)
-limit_answer (Err fault.Full) s t n said said_now text asked h told = inl (asked, plain_answer (Err fault.Full) s t n text h told)
-limit_answer (Err fault.NoRoutine) s t n said said_now text asked h told = inl (asked, plain_answer (Err fault.NoRoutine) s t n text h told)
-limit_answer (Err fault.NoAmong) s t n said said_now text asked h told = inl (asked, plain_answer (Err fault.NoAmong) s t n text h told)
-limit_answer (Err fault.AmongCount) s t n said said_now text asked h told = inl (asked, plain_answer (Err fault.AmongCount) s t n text h told)
-limit_answer (Err (fault.Script f)) s t n said said_now text asked h told = inl (asked, plain_answer (Err (fault.Script f)) s t n text h told)
-limit_answer (Err fault.OutOfMemory) s t n said said_now text asked h told = inl (asked, plain_answer (Err fault.OutOfMemory) s t n text h told)
-limit_answer (Err fault.MeterFull) s t n said said_now text asked h told = inl (asked, plain_answer (Err fault.MeterFull) s t n text h told)
-limit_answer (Err fault.BadLimit) s t n said said_now text asked h told = inl (asked, plain_answer (Err fault.BadLimit) s t n text h told)
-limit_answer (Err fault.NoGrouping) s t n said said_now text asked h told = inl (asked, plain_answer (Err fault.NoGrouping) s t n text h told)
+pub limit_answer : (r : Result (Unit {0}) EditFault) (s t : Contents) (n : ℕ) (said said_now : Bool) (text : Bor (List ℕ)) → OnOk r (said_now ≡ said)
+    → IfErr r (λ f. BreaksIfTold said said_now f) → EditsOrBreaks r s (Limit n) t → text.now ≡ edit_text (fault_in r) → IsAnswerOrBreak said said_now s (Makes (Limit n)) (reply.Fixed text) t
+limit_answer (Ok u) s t n said said_now text silent asked h told = inl (silent, plain_answer (Ok u) s t n text h told)
+limit_answer (Err fault.BrokenOff) s t n said said_now text silent asked h told = inr (asked, (text.now, refl, (n, refl, h, told)))
+limit_answer (Err fault.Present) s t n said said_now text silent asked h told = inl (asked, plain_answer (Err fault.Present) s t n text h told)
+limit_answer (Err fault.Absent) s t n said said_now text silent asked h told = inl (asked, plain_answer (Err fault.Absent) s t n text h told)
+limit_answer (Err fault.EmptyWord) s t n said said_now text silent asked h told = inl (asked, plain_answer (Err fault.EmptyWord) s t n text h told)
+limit_answer (Err fault.WordTooLong) s t n said said_now text silent asked h told = inl (asked, plain_answer (Err fault.WordTooLong) s t n text h told)
+limit_answer (Err fault.Full) s t n said said_now text silent asked h told = inl (asked, plain_answer (Err fault.Full) s t n text h told)
+limit_answer (Err fault.NoRoutine) s t n said said_now text silent asked h told = inl (asked, plain_answer (Err fault.NoRoutine) s t n text h told)
+limit_answer (Err fault.NoAmong) s t n said said_now text silent asked h told = inl (asked, plain_answer (Err fault.NoAmong) s t n text h told)
+limit_answer (Err fault.AmongCount) s t n said said_now text silent asked h told = inl (asked, plain_answer (Err fault.AmongCount) s t n text h told)
+limit_answer (Err (fault.Script f)) s t n said said_now text silent asked h told = inl (asked, plain_answer (Err (fault.Script f)) s t n text h told)
+limit_answer (Err fault.OutOfMemory) s t n said said_now text silent asked h told = inl (asked, plain_answer (Err fault.OutOfMemory) s t n text h told)
+limit_answer (Err fault.MeterFull) s t n said said_now text silent asked h told = inl (asked, plain_answer (Err fault.MeterFull) s t n text h told)
+limit_answer (Err fault.BadLimit) s t n said said_now text silent asked h told = inl (asked, plain_answer (Err fault.BadLimit) s t n text h told)
+limit_answer (Err fault.NoGrouping) s t n said said_now text silent asked h told = inl (asked, plain_answer (Err fault.NoGrouping) s t n text h told)

@@ -17,10 +17,10 @@ returns-in_err-last-clause-cut g c =
     let d = length-drop c.loop-word.word-index c.args.words.now in
     rw (f.1, f.2) (cut_more c.in_err-last.field-0.0 1 _ c.args.meter.now c.loop-word.meter c.run_or_break.new.meter n (omega arith) c.in_err-last.ensures.cut)
 
-pub returns-in_err-last-clause-asked : goal.returns-in_err-last-clause-asked
-returns-in_err-last-clause-asked g c =
+pub returns-in_err-last-clause-told : goal.returns-in_err-last-clause-told
+returns-in_err-last-clause-told g c =
     let f = err_from_is_err_and c.from_residual.result c.from_residual.ensures.1 in
-    rw (f.1, f.2) (told_more c.in_err-last.field-0.0 _ _ _ c.loop-word.invariant.untold c.in_err-last.ensures.asked)
+    rw (f.1, f.2) (told_more c.in_err-last.field-0.0 _ _ _ c.loop-word.invariant.untold c.in_err-last.ensures.told)
 
 pub returns-in_err-push_change-clause-cut : goal.returns-in_err-push_change-clause-cut
 returns-in_err-push_change-clause-cut g c =
@@ -32,7 +32,7 @@ returns-in_err-push_change-clause-cut g c =
     let d = length-drop c.loop-word.word-index c.args.words.now in
     rw (f.1, f.2) (c.run_or_break.new.meter - c.args.meter.now, omega arith, omega arith)
 
-pub returns-in_err-push_change-clause-asked : goal.returns-in_err-push_change-clause-asked
-returns-in_err-push_change-clause-asked g c =
+pub returns-in_err-push_change-clause-told : goal.returns-in_err-push_change-clause-told
+returns-in_err-push_change-clause-told g c =
     let f = err_from_is_err_and c.from_residual-in_err-push_change.result c.from_residual-in_err-push_change.ensures.1 in
-    rw (f.1, f.2) (c.in_ok-last.ensures.asked ∙ c.loop-word.invariant.untold)
+    rw (f.1, f.2) (c.in_ok-last.ensures.untold ∙ c.loop-word.invariant.untold)

@@ -41,7 +41,7 @@ loop-word-preserved g c =
       fresh = λ s made old. c.in_ok-put.ensures.kept (under s c.args.limit) (c.loop-word.invariant.fresh s made old) (c.in_ok-last.ensures.fresh s made old);
       counted = (let so = c.loop-word.invariant.counted in omega arith);
       more = (let so = c.loop-word.invariant.more in omega arith);
-      untold = c.in_ok-last.ensures.asked ∙ c.loop-word.invariant.untold;
+      untold = c.in_ok-last.ensures.untold ∙ c.loop-word.invariant.untold;
     }
 
 pub returns-in_err-last-clause-cut : goal.returns-in_err-last-clause-cut
@@ -52,10 +52,10 @@ returns-in_err-last-clause-cut g c =
     let more = c.loop-word.invariant.more in
     rw (f.1, f.2) (cut_more c.in_err-last.field-0.0 _ _ c.args.meter.now c.loop-word.meter c.run_of.new.meter more (omega arith) c.in_err-last.ensures.cut)
 
-pub returns-in_err-last-clause-asked : goal.returns-in_err-last-clause-asked
-returns-in_err-last-clause-asked g c =
+pub returns-in_err-last-clause-told : goal.returns-in_err-last-clause-told
+returns-in_err-last-clause-told g c =
     let f = err_from_is_err_and c.from_residual-in_err-last.result c.from_residual-in_err-last.ensures.1 in
-    rw (f.1, f.2) (told_more c.in_err-last.field-0.0 _ _ _ c.loop-word.invariant.untold c.in_err-last.ensures.asked)
+    rw (f.1, f.2) (told_more c.in_err-last.field-0.0 _ _ _ c.loop-word.invariant.untold c.in_err-last.ensures.told)
 
 pub returns-in_err-put-clause-cut : goal.returns-in_err-put-clause-cut
 returns-in_err-put-clause-cut g c =
@@ -66,7 +66,7 @@ returns-in_err-put-clause-cut g c =
     let is = c.in_ok-last.ensures.counted in
     rw (f.1, f.2) (c.run_of.new.meter - c.args.meter.now, omega arith, omega arith)
 
-pub returns-in_err-put-clause-asked : goal.returns-in_err-put-clause-asked
-returns-in_err-put-clause-asked g c =
+pub returns-in_err-put-clause-told : goal.returns-in_err-put-clause-told
+returns-in_err-put-clause-told g c =
     let f = err_from_is_err_and c.from_residual-in_err-put.result c.from_residual-in_err-put.ensures.1 in
-    rw (f.1, f.2) (c.in_ok-last.ensures.asked ∙ c.loop-word.invariant.untold)
+    rw (f.1, f.2) (c.in_ok-last.ensures.untold ∙ c.loop-word.invariant.untold)

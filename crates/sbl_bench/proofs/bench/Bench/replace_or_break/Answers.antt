@@ -24,8 +24,8 @@ returns-in_err-script-clause-edits g c =
     rw (p.1, p.2) (subst (λ (k : KeptRuns). EditsOrBreaks (Err (fault_of_script g)) (contents_of k) (Replace e c.args.text.now) (contents_of k)) c.self.view_is
     (ends s s (Replace e c.args.text.now) (fault_of_script g) (script_fault_ends g) (refusal_edits s e c.args.text.now c.with.result c.with.ensures.missing g c.in_err-script.was c.in_err-script.ensures.fault)))
 
-pub returns-in_err-script-clause-asked : goal.returns-in_err-script-clause-asked
-returns-in_err-script-clause-asked g c =
+pub returns-in_err-script-clause-told : goal.returns-in_err-script-clause-told
+returns-in_err-script-clause-told g c =
     let g = c.in_err-script.field-0.0 in
     let p = err_from_is_err_and c.from_residual.result c.from_residual.ensures.1 in
     rw (p.1, p.2) (untold _ (fault_of_script g) (script_fault_ends g))

@@ -23,8 +23,8 @@ returns-in_err-script-clause-edits g c =
     rw p.1 (subst (λ (k : KeptRuns). EditsOrBreaks (Err p.0) (contents_of k) (Whole c.args.text.now) (contents_of k)) c.self.view_is
     (ends s s (Whole c.args.text.now) p.0 (text_fault_ends g p.0 p.2) (unread s c.args.text.now g p.0 p.2 is)))
 
-pub returns-in_err-script-clause-asked : goal.returns-in_err-script-clause-asked
-returns-in_err-script-clause-asked g c =
+pub returns-in_err-script-clause-told : goal.returns-in_err-script-clause-told
+returns-in_err-script-clause-told g c =
     let g = c.in_err-script.field-0.0 in
     let p = err_from_is_err_and c.from_residual.result c.from_residual.ensures.1 in
     rw p.1 (untold _ p.0 (text_fault_ends g p.0 p.2))

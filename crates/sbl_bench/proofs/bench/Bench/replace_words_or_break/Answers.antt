@@ -33,8 +33,8 @@ returns-in_err-list-clause-edits g c =
     let not = list_ends ws g c.in_err-list.ensures.fault in
     rw (f.1, f.2) (subst (λ (k : KeptRuns). EditsOrBreaks (Err g) (contents_of k) (Words ws) (contents_of k)) c.self.view_is (ends s s (Words ws) g not (words_refused s ws g c.in_err-list.ensures.fault)))
 
-pub returns-in_err-list-clause-asked : goal.returns-in_err-list-clause-asked
-returns-in_err-list-clause-asked g c =
+pub returns-in_err-list-clause-told : goal.returns-in_err-list-clause-told
+returns-in_err-list-clause-told g c =
     let g = c.in_err-list.field-0.0 in
     let f = err_from_is_err_and c.from_residual.result c.from_residual.ensures.1 in
     rw (f.1, f.2) (untold _ g (list_ends (map (λ w. w.items) c.args.words.now) g c.in_err-list.ensures.fault))
