@@ -1,9 +1,9 @@
 -- The laws of an edit that was broken off.
-use Rattle.std.proofs.Common.{◌≡◌, ◌∙◌, ℕ, List, Option, Some, None, Err, inl, inr, refl, sym, ap}
+use Rattle.std.proofs.Common.{◌≡◌, ◌⊎◌, Some, None, inl, inr, sym, ap}
 use Rattle.sbl_bench.specs.BreakingOff.{IsBrokenOff}
 use Rattle.sbl_bench.specs.BreakLaws.{BrokenEditShowsTheOld, OnlyGoodEditsBreak, PlainEditsEnd}
 use Rattle.sbl_bench.specs.Contents.{Contents}
-use Rattle.sbl_bench.specs.Edits.{Edit, Add, Remove, Words, Replace, Whole, Limit, IsRefused, IsVerdict}
+use Rattle.sbl_bench.specs.Edits.{Edit, Add, Remove, Words, Replace, Whole, Limit, IsMeterFull, IsRefused, IsVerdict}
 use Rattle.sbl_bench.specs.declared.fault.EditFault.{EditFault}
 use Rattle.sbl_bench.specs.declared.fault.EditFault.TheVariants as fault
 use Rattle.sbl_bench.specs.Undo.{Shows}
@@ -22,8 +22,11 @@ refused_ends s (Whole bytes) is = cc is.2
 refused_ends s (Limit n) is = cc is.1
 
 pub plain_end : PlainEditsEnd
-plain_end s t e (inl is, same) = refused_ends s e is
-plain_end s t e (inr is, same) = cc is.3
+plain_end s t e h = by h.0
+  where
+    by : IsRefused s e fault.BrokenOff ⊎ IsMeterFull s e fault.BrokenOff → ⊥
+    by (inl is) = refused_ends s e is
+    by (inr is) = cc is.3
 
 pub only_good : Facts → OnlyGoodEditsBreak
 only_good k s t u e v broken verdict = sym (verdict_is_one k s e None v broken.made u broken.is verdict).0
