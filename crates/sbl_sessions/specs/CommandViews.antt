@@ -46,9 +46,11 @@ abbrev pub IsTextBreak : Contents → command.Command → List ℕ → Contents 
 IsTextBreak s c text t =
     (n : ℕ) × (c ≡ command.Makes (edits.Limit n)) × IsBrokenOff s (edits.Limit n) t × (text ≡ edit_text (Some fault.BrokenOff))
 
+abbrev pub IsBreakAnswer : Contents → command.Command → Reply → Contents → Type 0
+IsBreakAnswer s c r t = (text : List ℕ) × IsReply r text × IsTextBreak s c text t
+
 -- The reply to a command, and the bench after it. A limit is broken off exactly if the caller said so, which is told by whether it had
 -- said so before and has after.
 abbrev pub IsAnswerOrBreak : Bool → Bool → Contents → command.Command → Reply → Contents → Type 0
 IsAnswerOrBreak said said_now s c r t =
-    ((said_now ≡ said) × IsAnswer s c r t)
-    ⊎ ((said_now ≡ true) × ((text : List ℕ) × IsReply r text × IsTextBreak s c text t))
+    ((said_now ≡ said) × IsAnswer s c r t) ⊎ ((said_now ≡ true) × IsBreakAnswer s c r t)
