@@ -50,7 +50,9 @@ returns-in_err-last-clause-cut g c =
     let left = runs_left (words_in c.args.before.now.entries) c.args.words.now c.loop-word.word-index c.loop-word-test.true in
     let so = c.loop-word.invariant.counted in
     let more = c.loop-word.invariant.more in
-    rw (f.1, f.2) (cut_more c.in_err-last.field-0.0 _ _ c.args.meter.now c.loop-word.meter c.run_of.new.meter more (omega arith) c.in_err-last.ensures.cut)
+    let es = words_in c.args.before.now.entries in
+    let w = get_or c.args.words.now c.loop-word.word-index no_text in
+    rw (f.1, f.2) (cut_more c.in_err-last.field-0.0 (runs_of_word es w.now) (length (new_words es (texts_of c.args.words.now))) c.args.meter.now c.loop-word.meter c.run_of.new.meter more (omega arith) c.in_err-last.ensures.cut)
 
 pub returns-in_err-last-clause-told : goal.returns-in_err-last-clause-told
 returns-in_err-last-clause-told g c =
