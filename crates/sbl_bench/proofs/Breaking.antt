@@ -1,5 +1,5 @@
 -- Edits that may be broken off, and the plain ones that stand on them.
-use Rattle.std.proofs.Common.{◌≡◌, ◌≢◌, ◌<◌, ◌≤◌, ◌+◌, ◌-◌, ◌∙◌, ◌⊎◌, ◌||◌, ℕ, Bool, true, false, nat_le, nat_lt, cond, List, [], ◌∷◌, length, Option, Some, None, Result, Ok, Err, IfErr, inl, inr, arith, refl, sym, subst}
+use Rattle.std.proofs.Common.{◌≡◌, ◌≢◌, ◌<◌, ◌≤◌, ◌+◌, ◌-◌, ◌∙◌, ◌⊎◌, ℕ, Bool, true, false, nat_le, nat_lt, cond, List, [], ◌∷◌, length, Option, Some, None, Result, Ok, Err, IfErr, inl, inr, arith, refl, sym, subst}
 use Rattle.std.specs.Option.{option_or}
 use Rattle.sbl_script.specs.declared.edit_fault.EditFault as declared
 use Rattle.sbl_script.specs.declared.edit_fault.EditFault.TheVariants as script
@@ -64,15 +64,6 @@ told_more fault.OutOfMemory said between said_now same told = told ∙ same
 told_more fault.MeterFull said between said_now same told = told ∙ same
 told_more fault.BadLimit said between said_now same told = told ∙ same
 told_more fault.NoGrouping said between said_now same told = told ∙ same
-
--- what the caller has said after one more question
-pub says_yes : (said said_now answer : Bool) → said_now ≡ (said || answer) → answer ≡ true → said_now ≡ true
-says_yes true said_now answer is yes = is
-says_yes false said_now answer is yes = is ∙ yes
-
-pub says_no : (said said_now answer : Bool) → said_now ≡ (said || answer) → answer ≡ false → said_now ≡ said
-says_no true said_now answer is no = is
-says_no false said_now answer is no = is ∙ no
 
 -- an edit whose caller never says so
 pub plain : (r : Result (Unit {0}) EditFault) (s t : Contents) (e : Edit) → IfErr r (λ f. BreaksIfTold false false f) → EditsOrBreaks r s e t → Edits r s e t

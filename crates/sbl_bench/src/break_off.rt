@@ -1,6 +1,6 @@
 //! Whether an edit should be broken off.
 
-ghost use Rattle.std.specs.Prelude.{◌≡◌, ◌||◌, Bool, false};
+ghost use Rattle.std.specs.Prelude.{◌≡◌, Bool, true, false};
 
 /// Says whether an edit should be broken off before its next run.
 pub trait BreakOff {
@@ -9,7 +9,8 @@ pub trait BreakOff {
 
     /// Returns whether the edit should be broken off. Is called before each run.
     fn is_wanted(&mut self) -> bool
-        ensures { said self.new ≡ (said self.old || result) };
+        ensures yes { result ≡ true → said self.new ≡ true }
+        ensures no { result ≡ false → said self.new ≡ said self.old };
 }
 
 /// Lets each edit go on to its end.
