@@ -171,9 +171,3 @@ cut_stops (fault.Script g) needed count new_count room cut = absurd cut
 cut_stops fault.MeterFull needed count new_count room cut = absurd cut
 cut_stops fault.BadLimit needed count new_count room cut = absurd cut
 cut_stops fault.NoGrouping needed count new_count room cut = absurd cut
-
--- the same for a result
-pub result_stops : {A : Type 0} (r : Result A EditFault) (needed count new_count : ℕ) → needed ≤ max_runs - count → IfErr r (λ f. IsCut needed f count new_count)
-    → IfErr r (λ f. IsStopOf needed f count new_count)
-result_stops (Ok a) needed count new_count room cut = tt
-result_stops (Err f) needed count new_count room cut = cut_stops f needed count new_count room cut

@@ -14,7 +14,7 @@ ghost use Rattle.sbl_bench.specs.inside.Pairs.{IsUnique, Text, find, keys, same_
 ghost use Rattle.sbl_bench.specs.BreakingOff.{BreaksIfTold};
 ghost use Rattle.sbl_bench.specs.Contents.{max_runs};
 ghost use Rattle.sbl_rows.specs.Setting.{Setting, under};
-ghost use Rattle.sbl_bench.specs.inside.Stops.{IsCut, IsStopOf};
+ghost use Rattle.sbl_bench.specs.inside.Stops.{IsStopOf};
 
 use crate::affected_words::{AffectedWords, is_affected};
 use crate::break_off::BreakOff;
@@ -111,7 +111,7 @@ fn run_words<B: BreakOff>(
     requires room { meter.old + length words.now ≤ max_runs }
     ensures changes { (s : Source) → IsLinkedMachineOf machine.now s → IfOk result (λ changes. map view_change changes.items ≡ reruns (under s limit) (map (λ w. w.now) words.now)) }
     ensures counted { OnOk result (meter.new ≡ meter.old + length words.now) }
-    ensures cut { IfErr result (λ f. IsCut (length words.now) f meter.old meter.new) }
+    ensures stop { IfErr result (λ f. IsStopOf (length words.now) f meter.old meter.new) }
     ensures untold { OnOk result (B.said break_off.new ≡ B.said break_off.old) }
     ensures told { IfErr result (λ f. BreaksIfTold (B.said break_off.old) (B.said break_off.new) f) }
 {

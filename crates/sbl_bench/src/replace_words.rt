@@ -220,7 +220,7 @@ fn runs_of<B: BreakOff>(
     ensures words { IfOk result (λ traces. words_in traces.entries ≡ texts_of words.now) }
     ensures fresh { (s : Source) → IsLinkedMachineOf machine.now s → AreFresh (under s limit) before.now.entries → IfOk result (λ traces. AreFresh (under s limit) traces.entries) }
     ensures counted { OnOk result (meter.new ≡ meter.old + length (new_words (words_in before.now.entries) (texts_of words.now))) }
-    ensures cut { IfErr result (λ f. IsCut (length (new_words (words_in before.now.entries) (texts_of words.now))) f meter.old meter.new) }
+    ensures stop { IfErr result (λ f. IsStopOf (length (new_words (words_in before.now.entries) (texts_of words.now))) f meter.old meter.new) }
     ensures untold { OnOk result (B.said break_off.new ≡ B.said break_off.old) }
     ensures told { IfErr result (λ f. BreaksIfTold (B.said break_off.old) (B.said break_off.new) f) }
 {

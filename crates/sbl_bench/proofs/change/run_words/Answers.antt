@@ -1,7 +1,7 @@
-use Rattle.std.proofs.Common.{◌∙◌, ◌-◌, ◌+◌, ◌++◌, ◌∷◌, [], ℕ, List, Bor, arith, length, get_or, map, ap, refl}
+use Rattle.std.proofs.Common.{◌∙◌, ◌-◌, ◌+◌, ◌++◌, ◌∷◌, [], ℕ, List, Bor, arith, length, get_or, map, ap, inr, refl}
 use Rattle.std.proofs.lemmas.List.{length-drop}
 use Rattle.std.proofs.lemmas.Result.{err_from_is_err_and}
-use Rattle.sbl_bench.proofs.Breaking.{cut_more, told_more}
+use Rattle.sbl_bench.proofs.Breaking.{cut_more, cut_stops, told_more}
 use Rattle.sbl_bench.proofs.Meeting.{run_is, short_at}
 use Rattle.sbl_bench.specs.inside.Changes.{Rerun, rerun_of, reruns, view_change}
 use Rattle.sbl_rows.proofs.Loops.{step_map}
@@ -34,29 +34,33 @@ loop-word-preserved g c =
       untold = c.in_ok-last.ensures.untold ∙ c.loop-word.invariant.untold;
     }
 
-pub returns-in_err-last-clause-cut : goal.returns-in_err-last-clause-cut
-returns-in_err-last-clause-cut g c =
+pub returns-in_err-last-clause-stop : goal.returns-in_err-last-clause-stop
+returns-in_err-last-clause-stop g c =
     let f = err_from_is_err_and c.from_residual.result c.from_residual.ensures.1 in
     let m = c.loop-word.invariant.counted in
     let n = c.loop-word.invariant.more in
     let t = c.loop-word-test.true in
     let d = length-drop c.loop-word.word-index c.args.words.now in
-    rw (f.1, f.2) (cut_more c.in_err-last.field-0.0 1 (length c.args.words.now) c.args.meter.now c.loop-word.meter c.run_or_break.new.meter n (omega arith) c.in_err-last.ensures.cut)
+    let room = c.requires.room in
+    let e = c.in_err-last.field-0.0 in
+    rw (f.1, f.2) (cut_stops e (length c.args.words.now) c.args.meter.now c.run_or_break.new.meter (omega arith)
+    (cut_more e 1 (length c.args.words.now) c.args.meter.now c.loop-word.meter c.run_or_break.new.meter n (omega arith) c.in_err-last.ensures.cut))
 
 pub returns-in_err-last-clause-told : goal.returns-in_err-last-clause-told
 returns-in_err-last-clause-told g c =
     let f = err_from_is_err_and c.from_residual.result c.from_residual.ensures.1 in
     rw (f.1, f.2) (told_more c.in_err-last.field-0.0 _ _ _ c.loop-word.invariant.untold c.in_err-last.ensures.told)
 
-pub returns-in_err-push_change-clause-cut : goal.returns-in_err-push_change-clause-cut
-returns-in_err-push_change-clause-cut g c =
+pub returns-in_err-push_change-clause-stop : goal.returns-in_err-push_change-clause-stop
+returns-in_err-push_change-clause-stop g c =
     let f = err_from_is_err_and c.from_residual-in_err-push_change.result c.from_residual-in_err-push_change.ensures.1 in
     let k = c.in_ok-last.ensures.counted in
     let m = c.loop-word.invariant.counted in
     let n = c.loop-word.invariant.more in
     let t = c.loop-word-test.true in
     let d = length-drop c.loop-word.word-index c.args.words.now in
-    rw (f.1, f.2) (c.run_or_break.new.meter - c.args.meter.now, omega arith, omega arith)
+    let room = c.requires.room in
+    rw (f.1, f.2) (inr (c.run_or_break.new.meter - c.args.meter.now, omega arith, omega arith, omega arith))
 
 pub returns-in_err-push_change-clause-told : goal.returns-in_err-push_change-clause-told
 returns-in_err-push_change-clause-told g c =

@@ -1,4 +1,4 @@
-use Rattle.std.proofs.Common.{◌≡◌, ◌<◌, ◌∙◌, ◌+◌, ◌-◌, ◌++◌, ◌∷◌, [], ℕ, List, Result, Ok, Err, OnErr, length, drop, get_or, arith, ap, refl, sym}
+use Rattle.std.proofs.Common.{◌≡◌, ◌<◌, ◌∙◌, ◌+◌, ◌-◌, ◌++◌, ◌∷◌, [], ℕ, List, Result, Ok, Err, OnErr, length, drop, get_or, arith, ap, inr, refl, sym}
 use Rattle.std.proofs.lemmas.Result.{err_from_is_err_and}
 use Rattle.sbl_rows.specs.Classes.{texts_of}
 use Rattle.sbl_rows.specs.KnownOutcomes.{Text}
@@ -7,7 +7,7 @@ use Rattle.sbl_rows.proofs.Loops.{next, so_far}
 use Rattle.sbl_rows.proofs.SetFacts.{no_text}
 use Rattle.sbl_bench.specs.inside.KeptEntries.{words_in}
 use Rattle.sbl_bench.specs.inside.WordLists.{new_words, runs_of_word}
-use Rattle.sbl_bench.proofs.Breaking.{cut_more, told_more}
+use Rattle.sbl_bench.proofs.Breaking.{cut_more, cut_stops, told_more}
 use Rattle.sbl_bench.proofs.Listing.{new_after, new_count_at, sound_at}
 use Rattle.sbl_bench.proofs.replace_words.runs_of.Goals as goal
 
@@ -44,29 +44,34 @@ loop-word-preserved g c =
       untold = c.in_ok-last.ensures.untold ∙ c.loop-word.invariant.untold;
     }
 
-pub returns-in_err-last-clause-cut : goal.returns-in_err-last-clause-cut
-returns-in_err-last-clause-cut g c =
+pub returns-in_err-last-clause-stop : goal.returns-in_err-last-clause-stop
+returns-in_err-last-clause-stop g c =
     let f = err_from_is_err_and c.from_residual-in_err-last.result c.from_residual-in_err-last.ensures.1 in
     let left = runs_left (words_in c.args.before.now.entries) c.args.words.now c.loop-word.word-index c.loop-word-test.true in
     let so = c.loop-word.invariant.counted in
     let more = c.loop-word.invariant.more in
     let es = words_in c.args.before.now.entries in
     let w = get_or c.args.words.now c.loop-word.word-index no_text in
-    rw (f.1, f.2) (cut_more c.in_err-last.field-0.0 (runs_of_word es w.now) (length (new_words es (texts_of c.args.words.now))) c.args.meter.now c.loop-word.meter c.run_of.new.meter more (omega arith) c.in_err-last.ensures.cut)
+    let e = c.in_err-last.field-0.0 in
+    let room = c.requires.room in
+    let needed = length (new_words es (texts_of c.args.words.now)) in
+    rw (f.1, f.2) (cut_stops e needed c.args.meter.now c.run_of.new.meter (omega arith)
+    (cut_more e (runs_of_word es w.now) needed c.args.meter.now c.loop-word.meter c.run_of.new.meter more (omega arith) c.in_err-last.ensures.cut))
 
 pub returns-in_err-last-clause-told : goal.returns-in_err-last-clause-told
 returns-in_err-last-clause-told g c =
     let f = err_from_is_err_and c.from_residual-in_err-last.result c.from_residual-in_err-last.ensures.1 in
     rw (f.1, f.2) (told_more c.in_err-last.field-0.0 _ _ _ c.loop-word.invariant.untold c.in_err-last.ensures.told)
 
-pub returns-in_err-put-clause-cut : goal.returns-in_err-put-clause-cut
-returns-in_err-put-clause-cut g c =
+pub returns-in_err-put-clause-stop : goal.returns-in_err-put-clause-stop
+returns-in_err-put-clause-stop g c =
     let f = err_from_is_err_and c.from_residual-in_err-put.result c.from_residual-in_err-put.ensures.1 in
     let left = runs_left (words_in c.args.before.now.entries) c.args.words.now c.loop-word.word-index c.loop-word-test.true in
     let so = c.loop-word.invariant.counted in
     let more = c.loop-word.invariant.more in
     let is = c.in_ok-last.ensures.counted in
-    rw (f.1, f.2) (c.run_of.new.meter - c.args.meter.now, omega arith, omega arith)
+    let room = c.requires.room in
+    rw (f.1, f.2) (inr (c.run_of.new.meter - c.args.meter.now, omega arith, omega arith, omega arith))
 
 pub returns-in_err-put-clause-told : goal.returns-in_err-put-clause-told
 returns-in_err-put-clause-told g c =
