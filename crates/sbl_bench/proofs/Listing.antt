@@ -184,12 +184,6 @@ no_run_of before w there = ap (λ (b : Bool). cond b 0 1) there
 pub one_run_of : (before : List (List ℕ)) (w : List ℕ) → is_word w before ≡ false → runs_of_word before w ≡ 1
 one_run_of before w new = ap (λ (b : Bool). cond b 0 1) new
 
--- a copy of a fresh run is fresh
-pub copied_fresh : {E : Type 0} (r : Result RunTrace E) (t : Setting) (word : List ℕ) (last : RunTrace) → IfOk r (λ run. outcome_of run.outcome ≡ outcome_of last.outcome)
-    → IfOk r (λ run. run.touches.items ≡ last.touches.items) → IfOk r (λ run. run.used ≡ last.used) → IsFresh t word last → IfOk r (λ run. IsFresh t word run)
-copied_fresh (Ok run) t word last outcome touches used fresh = record { outcome = outcome ∙ fresh.outcome; touches = touches ∙ fresh.touches; used = used ∙ fresh.used }
-copied_fresh (Err e) t word last outcome touches used fresh = tt
-
 -- a run that is kept is as fresh as it was
 pub kept_fresh : {E : Type 0} (r : Result RunTrace E) (t : Setting) (word : List ℕ) (traced : RunTrace) → IfOk r (λ run. run.outcome ≡ traced.outcome)
     → IfOk r (λ run. run.touches.items ≡ traced.touches.items) → IfOk r (λ run. run.used ≡ traced.used) → IsFresh t word traced → IfOk r (λ run. IsFresh t word run)
