@@ -147,14 +147,15 @@ def try_sample(kit: Kit, jobs: int, number: int, commit: str, tally: Tally) -> N
 
 
 def try_functions(kit: Kit, jobs: int, wanted: dict[str, set[str]], tally: Tally) -> None:
-    """Tries the edits of these crates in checks of the functions that they change, and writes to tried.csv what came of each."""
+    """Tries the edits and the controls of these crates in checks of the functions that they change, and writes to tried.csv what came of each edit."""
     sources = {it: Sources(kit.folder(it)) for it in wanted}
-    edits = [edit for it, names in wanted.items() for edit in edits_of(kit, it, sources[it]) if not edit.is_control and (not names or edit.name in names)]
+    edits = [edit for it, names in wanted.items() for edit in edits_of(kit, it, sources[it]) if edit.is_control or not names or edit.name in names]
     sample, keepers = Sample(kit, sources, edits), {it: keeper(kit, it) for it in wanted}
-    found = sample.try_all(sample.edits, jobs, lambda edit, verdict, seconds: keepers[edit.crate](edit, verdict, seconds))
-    for edit, verdict in sample.try_others():
-        keepers[edit.crate](edit, verdict, 0)
-        found.append((edit, verdict))
+
+    def keep(edit: Edit, verdict: Verdict, seconds: float) -> None:
+        keepers[edit.crate](edit, verdict, seconds)
+
+    found = sample.try_all(sample.edits, jobs, keep) + sample.try_others(keep)
     for edit, verdict in [*found, *((it, Verdict(Kind.BAD, it.misfit)) for it in edits if it.misfit)]:
         tally.add(edit, verdict)
 

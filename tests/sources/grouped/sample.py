@@ -71,12 +71,17 @@ class Sample:
         with ThreadPoolExecutor(jobs) as pool:
             return [it for found in pool.map(try_kept, groups_by_crate(edits)) for it in found]
 
-    def try_others(self) -> list[tuple[Edit, Verdict]]:
-        """Tries the edits of other texts, each in a check of its whole crate, from nothing."""
+    def try_others(self, keep: Callable) -> list[tuple[Edit, Verdict]]:
+        """Tries the edits of other texts, each in a check of its whole crate, from nothing. `keep` is called as in `try_all`."""
         missing = self.kit.take_libraries({it.crate for it in self.others})
         if missing:
             return [(it, Verdict(Kind.UNKNOWN, f"{missing} is not proved here: run rt ci first")) for it in self.others]
-        return [(it, verdict_of(self.kit, it, self.kit.check(it.crate, it.texts, None))) for it in self.others]
+        found = []
+        for edit in self.others:
+            begin = time.time()
+            found.append((edit, verdict_of(self.kit, edit, self.kit.check(edit.crate, edit.texts, None))))
+            keep(*found[-1], time.time() - begin)
+        return found
 
     def try_group(self, edits: list[Edit]) -> list[tuple[Edit, Verdict]]:
         """Tries edits of one crate in one check, and alone what that does not settle."""
@@ -88,7 +93,7 @@ class Sample:
         found = []
         for edit in edits:
             verdict = judge(changes_of(edit), ran.said) if ran.is_refusal and not self.kit.unread_message(ran, texts) else None
-            is_settled = verdict and verdict.kind in (Kind.REFUSED, Kind.RENAMED, Kind.FORM)
+            is_settled = verdict and (verdict.kind in (Kind.REFUSED, Kind.RENAMED, Kind.FORM) or edit.is_control and verdict.kind is Kind.ACCEPTED)
             found.append((edit, verdict if is_settled else self.try_alone(edit)))
         return found
 
