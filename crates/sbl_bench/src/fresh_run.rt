@@ -5,7 +5,8 @@ ghost use Rattle.sbl_ast.specs.Source.{Source};
 ghost use Rattle.sbl_machine.specs.MachineOf.{IsLinkedMachineOf};
 ghost use Rattle.sbl_bench.specs.BreakingOff.{BreaksIfTold};
 ghost use Rattle.sbl_bench.specs.Contents.{max_runs};
-ghost use Rattle.sbl_bench.specs.KeptRuns.{IsFresh, IsWord};
+ghost use Rattle.sbl_bench.specs.KeptRuns.{IsWord};
+ghost use Rattle.sbl_bench.specs.inside.KeptEntries.{IsFresh};
 ghost use Rattle.sbl_bench.specs.inside.Stops.{IsCut};
 ghost use Rattle.sbl_rows.specs.Setting.{under};
 

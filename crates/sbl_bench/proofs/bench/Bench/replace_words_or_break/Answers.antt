@@ -10,7 +10,8 @@ use Rattle.sbl_rows.specs.Setting.{under}
 use Rattle.sbl_bench.specs.BreakingOff.{EditsOrBreaks}
 use Rattle.sbl_bench.specs.Contents.{Contents, max_runs, opening_fault}
 use Rattle.sbl_bench.specs.Edits.{Edits, Words}
-use Rattle.sbl_bench.specs.KeptRuns.{IsWord, KeptRuns, KeptWord, contents_of, words_in}
+use Rattle.sbl_bench.specs.KeptRuns.{IsWord, KeptRuns, contents_of}
+use Rattle.sbl_bench.specs.inside.KeptEntries.{KeptWord, words_in}
 use Rattle.sbl_bench.specs.LeavesChanges.{rows_now}
 use Rattle.sbl_bench.specs.Vocabulary.{vocabulary}
 use Rattle.sbl_bench.specs.inside.Last.{last_changes}

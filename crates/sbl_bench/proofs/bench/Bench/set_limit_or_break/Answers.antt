@@ -5,7 +5,8 @@ use Rattle.sbl_script.specs.ParsedScript.{source_of}
 use Rattle.sbl_bench.specs.inside.Changes.{Brings, affected_of}
 use Rattle.sbl_bench.specs.BreakingOff.{EditsOrBreaks}
 use Rattle.sbl_bench.specs.Edits.{Edit, Edits, Limit, is_limit}
-use Rattle.sbl_bench.specs.KeptRuns.{KeptWord, IsWord, KeptRuns, contents_of, words_in}
+use Rattle.sbl_bench.specs.KeptRuns.{IsWord, KeptRuns, contents_of}
+use Rattle.sbl_bench.specs.inside.KeptEntries.{KeptWord, words_in}
 use Rattle.sbl_rows.specs.ChangedRows.{changed_rows}
 use Rattle.sbl_bench.specs.Contents.{Contents}
 use Rattle.sbl_bench.specs.inside.Last.{Follows, last_changes}
