@@ -77,8 +77,6 @@ pub record IsUnused (tally : Tally) : Type 0 where
   pub rested : tally.interruptions ≡ 0
   pub none : tally.reads ≡ 0
 
--- ---- errors of std
-
 -- the writer has failed since, or it was interrupted more than 1,000 times in a row
 abbrev pub HasStopped : {W : Type 0} → (W → Tally) → W → W → Type 0
 HasStopped tally old new = ((tally old).failures < (tally new).failures) ⊎ (max_tries ≤ (tally new).interruptions)
