@@ -2,6 +2,7 @@
 
 mod amongs;
 mod bench;
+mod breaks;
 mod changes;
 mod control;
 mod edits;

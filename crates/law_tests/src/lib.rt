@@ -3,6 +3,7 @@
 #![tactic(auto)]
 
 pub mod amongs_replacement;
+pub mod bench_break_laws;
 pub mod bench_equal_scripts;
 pub mod bench_undo;
 pub mod changes_changes_are_sound;

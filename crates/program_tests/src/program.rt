@@ -41,6 +41,7 @@ fn wanted_of(alloc: Global, words: &str) -> Result<Wanted, AllocError> {
             shows_places: false,
             face: None,
             from: None,
+            stop: None,
             form: None,
         },
     })

@@ -29,6 +29,7 @@ fn paths_of(alloc: Global, file: &str) -> Result<Paths, Fail> {
         words: None,
         external: String::from_str(alloc, "stem")?,
         from: None,
+        stop: None,
     })
 }
 

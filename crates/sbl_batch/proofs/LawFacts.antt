@@ -145,6 +145,7 @@ module _ (one : LoadingIsOne) (bytes external : List ℕ) (a b : Option (List �
   opens s lines input (Some edit.MeterFull) e = absurd (clash edit.MeterFull tt (s, lines, input, e))
   opens s lines input (Some edit.BadLimit) e = absurd (clash edit.BadLimit tt (s, lines, input, e))
   opens s lines input (Some edit.NoGrouping) e = absurd (clash edit.NoGrouping tt (s, lines, input, e))
+  opens s lines input (Some edit.BrokenOff) e = absurd (clash edit.BrokenOff tt (s, lines, input, e))
 
 pub same-input : LoadingIsOne → SameInput
 same-input one bytes external a b c text loaded so =

@@ -14,6 +14,8 @@ pub mod Tracing
 pub mod LastChanges
 pub mod OneVerdict
 pub mod Replacing
+pub mod Breaking
+pub mod BreakLaws
 pub mod Reruns
 pub mod Bringing
 pub mod Undoing

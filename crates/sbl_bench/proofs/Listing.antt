@@ -9,6 +9,7 @@ use Rattle.indexmap.specs.IndexMap.{insert_entry}
 use Rattle.std.proofs.lemmas.Bool.{or_parts}
 use Rattle.std.proofs.lemmas.List.{length-append, length-map, map-append, take-append-drop}
 use Rattle.std.proofs.lemmas.List.Elements.{All-nil, All-push}
+use Rattle.sbl_bench.specs.BreakingOff.{EditsOrBreaks}
 use Rattle.sbl_bench.specs.Contents.{Contents, IsFaultOrMemory, max_runs, opening_fault, word_fault}
 use Rattle.sbl_bench.specs.Edits.{Edits, Remove, Words, BeforeEdit}
 use Rattle.sbl_machine.specs.declared.outcome.RunTrace.{RunTrace}
@@ -26,7 +27,7 @@ use Rattle.sbl_bench.specs.inside.WordLists.{new_words, runs_of_word}
 use Rattle.sbl_bench.proofs.MapEntries.{not_found}
 use Rattle.sbl_bench.proofs.Meeting.{at_mapped}
 use Rattle.sbl_bench.proofs.Taking.{Traces, goes_last, same_word}
-use Rattle.sbl_bench.proofs.Refusals.{replaces, replaces_never, replaces_nothing}
+use Rattle.sbl_bench.proofs.Refusals.{breaks, replaces, replaces_never, replaces_nothing}
 use Rattle.sbl_bench.proofs.WordFaults.{room_of, short_of}
 
 -- ---- a vocabulary
@@ -133,6 +134,7 @@ is_fault o (fault.Script g) is = is
 is_fault o fault.MeterFull is = is
 is_fault o fault.BadLimit is = is
 is_fault o fault.NoGrouping is = is
+is_fault o fault.BrokenOff is = is
 
 module _ (all old rest more : List (List ℕ)) (w : List ℕ) (split : rest ≡ w ∷ more) where
   pub fault_next : (new : List (List ℕ)) → opening_fault [] all ≡ opening_fault old rest → word_fault old w ≡ None → new ≡ with_word old w → opening_fault [] all ≡ opening_fault new more
@@ -160,6 +162,7 @@ module _ (all old rest more : List (List ℕ)) (w : List ℕ) (split : rest ≡ 
   fault_here fault.MeterFull so is = fault_found fault.MeterFull so is
   fault_here fault.BadLimit so is = fault_found fault.BadLimit so is
   fault_here fault.NoGrouping so is = fault_found fault.NoGrouping so is
+  fault_here fault.BrokenOff so is = fault_found fault.BrokenOff so is
 
 -- ---- runs
 
@@ -179,12 +182,6 @@ no_run_of before w there = ap (λ (b : Bool). cond b 0 1) there
 
 pub one_run_of : (before : List (List ℕ)) (w : List ℕ) → is_word w before ≡ false → runs_of_word before w ≡ 1
 one_run_of before w new = ap (λ (b : Bool). cond b 0 1) new
-
--- a copy of a fresh run is fresh
-pub copied_fresh : {E : Type 0} (r : Result RunTrace E) (t : Setting) (word : List ℕ) (last : RunTrace) → IfOk r (λ run. outcome_of run.outcome ≡ outcome_of last.outcome)
-    → IfOk r (λ run. run.touches.items ≡ last.touches.items) → IfOk r (λ run. run.used ≡ last.used) → IsFresh t word last → IfOk r (λ run. IsFresh t word run)
-copied_fresh (Ok run) t word last outcome touches used fresh = record { outcome = outcome ∙ fresh.outcome; touches = touches ∙ fresh.touches; used = used ∙ fresh.used }
-copied_fresh (Err e) t word last outcome touches used fresh = tt
 
 -- a run that is kept is as fresh as it was
 pub kept_fresh : {E : Type 0} (r : Result RunTrace E) (t : Setting) (word : List ℕ) (traced : RunTrace) → IfOk r (λ run. run.outcome ≡ traced.outcome)
@@ -229,6 +226,7 @@ words_refused s ws (fault.Script g) is = (inl is, refl)
 words_refused s ws fault.MeterFull is = (inl is, refl)
 words_refused s ws fault.BadLimit is = (inl is, refl)
 words_refused s ws fault.NoGrouping is = (inl is, refl)
+words_refused s ws fault.BrokenOff is = (inl is, refl)
 
 module _ (s : Contents) (ws : List (List ℕ)) (none : opening_fault [] ws ≡ None) where
   abbrev need : ℕ
@@ -237,7 +235,7 @@ module _ (s : Contents) (ws : List (List ℕ)) (none : opening_fault [] ws ≡ N
   no_removal : (word : List ℕ) → Words ws ≢ Remove word
   no_removal word same = cc same
 
-  pub words_stop : (f : EditFault) (count : ℕ) → IsStopOf need f s.count count → Edits (Err f) s (Words ws) (record s { count = count })
+  pub words_stop : (f : EditFault) (count : ℕ) → IsStopOf need f s.count count → EditsOrBreaks (Err f) s (Words ws) (record s { count = count })
   words_stop fault.OutOfMemory count (inl same) = BeforeEdit no_removal tt (λ i. record s { count = same i })
   words_stop fault.OutOfMemory count (inr some) = replaces_nothing s (Words ws) s.setting s.words s.count need count no_removal (none, refl) refl refl some.2 refl (some.0, some.1, some.3)
   words_stop fault.MeterFull count full =
@@ -253,6 +251,7 @@ module _ (s : Contents) (ws : List (List ℕ)) (none : opening_fault [] ws ≡ N
   words_stop (fault.Script f) count stop = absurd stop
   words_stop fault.BadLimit count stop = absurd stop
   words_stop fault.NoGrouping count stop = absurd stop
+  words_stop fault.BrokenOff count cut = breaks s (Words ws) s.setting s.count need count (none, refl) refl refl cut.2 (cut.0, cut.1, cut.3)
 
   pub words_replace : (words : List (List ℕ)) (count : ℕ) → words ≡ vocabulary ws → need ≤ max_runs - s.count → count ≡ s.count + need
       → Edits (Ok tt) s (Words ws) (record s { words = words; count = count })

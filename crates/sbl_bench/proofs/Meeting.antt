@@ -10,7 +10,7 @@ use Rattle.std.specs.Prelude.{if◌then◌else◌}
 use Rattle.sbl_semantics.specs.Outcome.{run_of, touches_of, used_of}
 use Rattle.sbl_machine.specs.declared.outcome.RunTrace.{RunTrace}
 use Rattle.sbl_bench.specs.inside.AffectedWords.{AffectedWords, is_affected, is_affected_run}
-use Rattle.sbl_bench.specs.inside.Changes.{AreAnew, AreRun, AreStill, Brings, Rerun, is_changed, is_met, met_words, rerun_of, reruns, view_change}
+use Rattle.sbl_bench.specs.inside.Changes.{AreAnew, AreRun, AreStill, Brings, Rerun, is_changed, is_met, met_words, rerun_of, reruns, view_change, view_run}
 use Rattle.sbl_bench.specs.Contents.{Contents}
 use Rattle.sbl_bench.specs.Edits.{Edit, needs_run, runs_needed}
 use Rattle.sbl_bench.specs.KeptRuns.{KeptWord, AreFresh, IsFresh, IsWord, words_in}
@@ -19,6 +19,10 @@ use Rattle.sbl_rows.specs.Setting.{Setting, RunsSame}
 use Rattle.sbl_bench.specs.declared.change.Change.{Change}
 
 -- ---- which words are met
+
+-- a fresh run is that of its word
+pub run_is : (t : Setting) (word : List ℕ) (r : RunTrace) → IsFresh t word r → view_run word r ≡ rerun_of t word
+run_is t word r f = λ i. record { word = word; outcome = f.outcome i; touches = f.touches i; used = f.used i }
 
 -- a word's last run is affected if a fresh one is
 pub met_fresh : (s : Setting) (a : AffectedWords) (e : KeptWord) → IsFresh s e.0.items e.1 → is_met a e ≡ is_affected s a e.0.items

@@ -12,6 +12,7 @@ use Rattle.sbl_rows.specs.Setting.{Setting}
 use Rattle.sbl_bench.specs.KeptRuns.{KeptWord, words_in}
 use Rattle.sbl_bench.specs.declared.fault.EditFault.{EditFault}
 use Rattle.sbl_bench.specs.declared.fault.EditFault.TheVariants as fault
+use Rattle.sbl_bench.specs.BreakingOff.{IsBrokenOff}
 use Rattle.sbl_bench.specs.Contents.{Contents, max_runs}
 use Rattle.sbl_bench.specs.Edits.{Edit, Edits, Add, Remove, BeforeEdit, During, IsSettingAfter, refusal_of_add, runs_needed, words_after}
 use Rattle.sbl_bench.specs.inside.ProofNames.{contents_after, lacks_counts}
@@ -97,6 +98,7 @@ adds (Err fault.NoRoutine) s word words count free new small _ _ same stop = abs
 adds (Err fault.NoAmong) s word words count free new small _ _ same stop = absurd stop
 adds (Err fault.BadLimit) s word words count free new small _ _ same stop = absurd stop
 adds (Err fault.NoGrouping) s word words count free new small _ _ same stop = absurd stop
+adds (Err fault.BrokenOff) s word words count free new small _ _ same stop = absurd stop
 adds (Err fault.AmongCount) s word words count free new small _ _ same stop = absurd stop
 adds (Err (fault.Script f)) s word words count free new small _ _ same stop = absurd stop
 
@@ -138,6 +140,18 @@ pub replaces_nothing : (s : Contents) (e : Edit) (p : Setting) (words : List (Li
 replaces_nothing s e p words before needed count wanted after so many room same ran =
     During wanted (contents_after s e p) (record { setting = p; after = after; counts = enough s e p before needed so many room; is = refl })
     ran.0 ran.1 (λ i. record { setting = s.setting; words = same i; count = ran.2 i })
+
+-- where it was broken off before one of the runs
+pub breaks : (s : Contents) (e : Edit) (p : Setting) (before needed count : ℕ) → IsSettingAfter s e p
+    → before ≡ s.count → needed ≡ runs_needed s e p → needed ≤ max_runs - before → ((n : ℕ) × (n < runs_needed s e p) × (count ≡ s.count + n))
+    → IsBrokenOff s e (record s { count = count })
+breaks s e p before needed count after so many room cut = record {
+  made = contents_after s e p;
+  is = record { setting = p; after = after; counts = enough s e p before needed so many room; is = refl };
+  runs = cut.0;
+  fewer = cut.1;
+  after = λ i. record s { count = cut.2 i };
+}
 
 pub replaces : (s : Contents) (e : Edit) (p : Setting) (words : List (List ℕ)) (before needed count : ℕ) → IsSettingAfter s e p
     → before ≡ s.count → needed ≡ runs_needed s e p → needed ≤ max_runs - before

@@ -3,10 +3,12 @@ pub mod Vocabulary
 pub mod Traces
 pub mod Contents
 pub mod Edits
+pub mod BreakingOff
 pub mod OneVerdict
 pub mod EqualScripts
 pub mod Names
 pub mod Undo
+pub mod BreakLaws
 pub mod KeptRuns
 pub mod LeavesChanges
 pub mod Whys

@@ -10,12 +10,15 @@ ghost use Rattle.sbl_bench.specs.inside.Changes.{affected_of, is_changed, reruns
 ghost use Rattle.sbl_bench.specs.KeptRuns.{words_in, AreFresh, IsWord};
 ghost use Rattle.sbl_bench.specs.inside.Last.{last_changes, rows_between, word_found, word_run, AreApart, AreThere, Follows};
 ghost use Rattle.sbl_bench.specs.inside.Pairs.{IsUnique, Text, find, keys, same_text};
+ghost use Rattle.sbl_bench.specs.BreakingOff.{BreaksIfTold};
 ghost use Rattle.sbl_bench.specs.Contents.{max_runs};
 ghost use Rattle.sbl_rows.specs.Setting.{Setting, under};
 ghost use Rattle.sbl_bench.specs.inside.Stops.{IsStopOf};
 
 use crate::affected_words::{AffectedWords, is_affected};
+use crate::break_off::BreakOff;
 use crate::fault::EditFault;
+use crate::fresh_run::run_or_break;
 use crate::last_run::{LastRun, SharedLists};
 use crate::traces::{Traces, words_are_unique};
 use sbl_machine::{Machine, Meter, Table};
@@ -90,30 +93,32 @@ fn met_words<'a>(
     Ok(words)
 }
 
-/// Runs each of the words, and returns the changes. Returns `AllocError` if an allocation fails.
-fn run_words(
+/// Runs each of the words, and returns the changes.
+///
+/// # Errors
+///
+/// Returns `OutOfMemory` if an allocation fails, and `BrokenOff` if `break_off` says so before a run.
+fn run_words<B: BreakOff>(
     alloc: Global,
     machine: &Machine<Table>,
     limit: u32,
     words: &[&[char]],
     meter: &mut Meter,
-) -> Result<Vec<Change>, AllocError>
+    break_off: &mut B,
+) -> Result<Vec<Change>, EditFault>
     requires sound { All IsWord (map (λ w. w.now) words.now) }
     requires room { meter.old + length words.now ≤ max_runs }
     ensures changes { (s : Source) → IsLinkedMachineOf machine.now s → IfOk result (λ changes. map view_change changes.items ≡ reruns (under s limit) (map (λ w. w.now) words.now)) }
     ensures counted { OnOk result (meter.new ≡ meter.old + length words.now) }
-    ensures some { OnErr result ((n : ℕ) × (n ≤ length words.now) × (meter.new ≡ meter.old + n)) }
+    ensures stop { IfErr result (λ f. IsStopOf (length words.now) f meter.old meter.new) }
+    ensures untold { OnOk result (B.said break_off.new ≡ B.said break_off.old) }
+    ensures told { IfErr result (λ f. BreaksIfTold (B.said break_off.old) (B.said break_off.new) f) }
 {
     let mut changes = Vec::new(alloc);
     let mut lists = SharedLists::new(alloc);
     for word in words {
-        match machine.trace(alloc, meter, word, limit) {
-            Ok(traced) => {
-                let last = lists.keep(alloc, meter, traced)?;
-                push_change(alloc, &mut changes, word, last)?;
-            }
-            Err(_) => return Err(AllocError),
-        }
+        let last = run_or_break(alloc, machine, limit, meter, &mut lists, word, break_off)?;
+        push_change(alloc, &mut changes, word, last)?;
     }
     Ok(changes)
 }
@@ -123,14 +128,15 @@ fn run_words(
 /// # Errors
 ///
 /// Returns `MeterFull` if fewer counts of runs are left than there are words to run; nothing is run then. Returns `OutOfMemory`
-/// if an allocation fails.
-pub(crate) fn rerun(
+/// if an allocation fails, and `BrokenOff` if `break_off` says so before a run.
+pub(crate) fn rerun<B: BreakOff>(
     alloc: Global,
     machine: &Machine<Table>,
     limit: u32,
     affected: &AffectedWords,
     meter: &mut Meter,
     traces: &Traces,
+    break_off: &mut B,
 ) -> Result<Vec<Change>, EditFault>
     requires sound { All IsWord (words_in traces.now.entries) }
     ensures changes { (s : Source) → IsLinkedMachineOf machine.now s → IfOk result (λ changes. map view_change changes.items ≡ reruns (under s limit) (spec.met_words (affected_of affected.now) traces.now.entries)) }
@@ -138,12 +144,14 @@ pub(crate) fn rerun(
     ensures room { OnOk result (length (spec.met_words (affected_of affected.now) traces.now.entries) ≤ max_runs - meter.old) }
     ensures stop { IfErr result (λ f. IsStopOf (length (spec.met_words (affected_of affected.now) traces.now.entries)) f meter.old meter.new) }
     ensures unique { IsUnique same_text traces.now }
+    ensures untold { OnOk result (B.said break_off.new ≡ B.said break_off.old) }
+    ensures told { IfErr result (λ f. BreaksIfTold (B.said break_off.old) (B.said break_off.new) f) }
 {
     let words = met_words(alloc, affected, traces)?;
     if u64::MAX - meter.count() < words.len() as u64 {
         return Err(EditFault::MeterFull);
     }
-    let changes = run_words(alloc, machine, limit, &words, meter)?;
+    let changes = run_words(alloc, machine, limit, &words, meter, break_off)?;
     Ok(changes)
 }
 

@@ -1,6 +1,6 @@
 //! Edits of a bench.
 
-ghost use Rattle.std.specs.Prelude.{◌≡◌, ◌≤◌, ◌<◌, ◌+◌, ◌^◌, ℕ, List, MatchOption, IfOk, true, false};
+ghost use Rattle.std.specs.Prelude.{◌≡◌, ◌≤◌, ◌<◌, ◌+◌, ◌^◌, ℕ, List, MatchOption, IfErr, IfOk, OnOk, true, false};
 ghost use Rattle.sbl_bench.specs.Edits.{is_limit};
 ghost use Rattle.sbl_machine.specs.EditedItem.{edited_item};
 ghost use Rattle.sbl_script.specs.Parts.{view_part};
@@ -10,6 +10,7 @@ use crate::affected_words::{
     AffectedWords, above_smaller, affected_by_exchange, affected_by_items,
 };
 use crate::bench::{Bench, MAX_LIMIT, MAX_WORDS};
+use crate::break_off::{BreakOff, NeverBreak};
 use crate::change::{make_changes, rerun};
 use crate::fault::EditFault;
 use crate::pairs::{follow, follow_new, follow_old};
@@ -26,6 +27,7 @@ use std::mem::swap;
 use std::slice::from_ref;
 
 impl Bench {
+    ghost use Rattle.sbl_bench.specs.BreakingOff.{BreaksIfTold, EditsOrBreaks};
     ghost use Rattle.sbl_bench.specs.KeptRuns.{contents_of};
     ghost use Rattle.sbl_bench.specs.inside.Changes.{Brings, IsExchange, IsTaken, affected_of};
     ghost use Rattle.sbl_bench.specs.Edits.{Edit, Edits, Add, Grouping, Limit, Remove, Replace, Routine, Among, Whole};
@@ -110,9 +112,29 @@ impl Bench {
         ensures edits { Edits result (contents_of self.old) (Replace (view_part part.entry) text.now) (contents_of self.new) }
         ensures changes { LeavesChanges result self.old self.new }
     {
+        self.replace_or_break(part, text, &mut NeverBreak {})
+    }
+
+    /// Does what `replace` does, or is broken off.
+    ///
+    /// # Errors
+    ///
+    /// As `replace`, and returns `BrokenOff` if `break_off` says so before a run. Then all is as before but for the count of runs,
+    /// which has risen by the runs that were made.
+    pub fn replace_or_break<B: BreakOff>(
+        &mut self,
+        part: Part<'_>,
+        text: &str,
+        break_off: &mut B,
+    ) -> Result<(), EditFault>
+        ensures edits { EditsOrBreaks result (contents_of self.old) (Replace (view_part part.entry) text.now) (contents_of self.new) }
+        ensures changes { LeavesChanges result self.old self.new }
+        ensures untold { OnOk result (B.said break_off.new ≡ B.said break_off.old) }
+        ensures told { IfErr result (λ f. BreaksIfTold (B.said break_off.old) (B.said break_off.new) f) }
+    {
         let script = self.script.with(self.alloc, part, text)?;
         let item = item_at(self.alloc, part)?;
-        self.take_edited(script, &item)
+        self.take_edited(script, &item, break_off)
     }
 
     /// Replaces the body of the routine or external of this name, as `replace` does.
@@ -152,6 +174,25 @@ impl Bench {
         ensures edits { Edits result (contents_of self.old) (Limit number) (contents_of self.new) }
         ensures changes { LeavesChanges result self.old self.new }
     {
+        self.set_limit_or_break(number, &mut NeverBreak {})
+    }
+
+    /// Does what `set_limit` does, or is broken off.
+    ///
+    /// # Errors
+    ///
+    /// As `set_limit`, and returns `BrokenOff` if `break_off` says so before a run. Then all is as before but for the count of
+    /// runs, which has risen by the runs that were made.
+    pub fn set_limit_or_break<B: BreakOff>(
+        &mut self,
+        number: u64,
+        break_off: &mut B,
+    ) -> Result<(), EditFault>
+        ensures edits { EditsOrBreaks result (contents_of self.old) (Limit number) (contents_of self.new) }
+        ensures changes { LeavesChanges result self.old self.new }
+        ensures untold { OnOk result (B.said break_off.new ≡ B.said break_off.old) }
+        ensures told { IfErr result (λ f. BreaksIfTold (B.said break_off.old) (B.said break_off.new) f) }
+    {
         let Some(limit) = limit_of(number) else {
             return Err(EditFault::BadLimit);
         };
@@ -164,6 +205,7 @@ impl Bench {
             &affected,
             &mut self.meter,
             &self.traces,
+            break_off,
         )?;
         let before = make_changes(&mut self.traces, changes);
         self.pairs = follow(
@@ -193,15 +235,41 @@ impl Bench {
         ensures edits { Edits result (contents_of self.old) (Whole text.now) (contents_of self.new) }
         ensures changes { LeavesChanges result self.old self.new }
     {
+        self.replace_script_or_break(text, &mut NeverBreak {})
+    }
+
+    /// Does what `replace_script` does, or is broken off.
+    ///
+    /// # Errors
+    ///
+    /// As `replace_script`, and returns `BrokenOff` if `break_off` says so before a run. Then all is as before but for the count of
+    /// runs, which has risen by the runs that were made.
+    pub fn replace_script_or_break<B: BreakOff>(
+        &mut self,
+        text: &[u8],
+        break_off: &mut B,
+    ) -> Result<(), EditFault>
+        ensures edits { EditsOrBreaks result (contents_of self.old) (Whole text.now) (contents_of self.new) }
+        ensures changes { LeavesChanges result self.old self.new }
+        ensures untold { OnOk result (B.said break_off.new ≡ B.said break_off.old) }
+        ensures told { IfErr result (λ f. BreaksIfTold (B.said break_off.old) (B.said break_off.new) f) }
+    {
         let mut script = Script::parse(self.alloc, text, self.script.external())?;
-        self.exchange(&mut script)
+        self.exchange(&mut script, break_off)
     }
 
     // Takes the script that was made by replacing an item.
-    fn take_edited(&mut self, script: Script, item: &Item) -> Result<(), EditFault>
+    fn take_edited<B: BreakOff>(
+        &mut self,
+        script: Script,
+        item: &Item,
+        break_off: &mut B,
+    ) -> Result<(), EditFault>
         requires { (e : ScriptEdit) × (text : List ℕ) × IsTaken (contents_of self.old) e text (source_of script) (item_of item.now) }
-        ensures edits { (e : ScriptEdit) (text : List ℕ) → IsTaken (contents_of self.old) e text (source_of script) (item_of item.now) → Edits result (contents_of self.old) (Replace e text) (contents_of self.new) }
+        ensures edits { (e : ScriptEdit) (text : List ℕ) → IsTaken (contents_of self.old) e text (source_of script) (item_of item.now) → EditsOrBreaks result (contents_of self.old) (Replace e text) (contents_of self.new) }
         ensures changes { LeavesChanges result self.old self.new }
+        ensures untold { OnOk result (B.said break_off.new ≡ B.said break_off.old) }
+        ensures told { IfErr result (λ f. BreaksIfTold (B.said break_off.old) (B.said break_off.new) f) }
     {
         edits_agree();
         untouched_stay();
@@ -210,19 +278,25 @@ impl Bench {
         let items = from_ref(item);
         let affected = affected_by_items(self.alloc, &self.machine, &self.script, items)?;
         let mut script = script;
-        self.take_script(&mut script, &affected)
+        self.take_script(&mut script, &affected, break_off)
     }
 
     // Exchanges the script in force for another one, however much they differ.
-    fn exchange(&mut self, script: &mut Script) -> Result<(), EditFault>
+    fn exchange<B: BreakOff>(
+        &mut self,
+        script: &mut Script,
+        break_off: &mut B,
+    ) -> Result<(), EditFault>
         requires { (e : Edit) × IsExchange (contents_of self.old) e (source_of script.old) }
-        ensures edits { (e : Edit) → IsExchange (contents_of self.old) e (source_of script.old) → Edits result (contents_of self.old) e (contents_of self.new) }
+        ensures edits { (e : Edit) → IsExchange (contents_of self.old) e (source_of script.old) → EditsOrBreaks result (contents_of self.old) e (contents_of self.new) }
         ensures changes { LeavesChanges result self.old self.new }
+        ensures untold { OnOk result (B.said break_off.new ≡ B.said break_off.old) }
+        ensures told { IfErr result (λ f. BreaksIfTold (B.said break_off.old) (B.said break_off.new) f) }
     {
         differing_stay();
         is_well_declared(&self.script);
         let affected = affected_by_exchange(self.alloc, &self.machine, &self.script, script)?;
-        self.take_script(script, &affected)
+        self.take_script(script, &affected, break_off)
     }
 
     /// Exchanges the script in force for another one, and runs each word once that this affects.
@@ -230,16 +304,20 @@ impl Bench {
     /// # Errors
     ///
     /// Returns `MeterFull` if fewer counts of runs are left than there are words to run, and `OutOfMemory` if an allocation
-    /// fails. Then both scripts, the vocabulary, rows and classes are unchanged. The count of runs is unchanged too, except
-    /// that after `OutOfMemory` it may be higher by at most the number of words to run.
-    fn take_script(
+    /// fails, and `BrokenOff` if `break_off` says so before a run. Then both scripts, the vocabulary, rows and classes are
+    /// unchanged. The count of runs is unchanged too, except that after `OutOfMemory` and `BrokenOff` it may be higher by at most
+    /// the number of words to run.
+    fn take_script<B: BreakOff>(
         &mut self,
         script: &mut Script,
         affected: &AffectedWords,
+        break_off: &mut B,
     ) -> Result<(), EditFault>
         requires { (e : Edit) × Brings (contents_of self.old) e (under (source_of script.old) self.old.limit) (affected_of affected.now) }
-        ensures edits { (e : Edit) → Brings (contents_of self.old) e (under (source_of script.old) self.old.limit) (affected_of affected.now) → Edits result (contents_of self.old) e (contents_of self.new) }
+        ensures edits { (e : Edit) → Brings (contents_of self.old) e (under (source_of script.old) self.old.limit) (affected_of affected.now) → EditsOrBreaks result (contents_of self.old) e (contents_of self.new) }
         ensures changes { LeavesChanges result self.old self.new }
+        ensures untold { OnOk result (B.said break_off.new ≡ B.said break_off.old) }
+        ensures told { IfErr result (λ f. BreaksIfTold (B.said break_off.old) (B.said break_off.new) f) }
     {
         let after = Machine::new(self.alloc, script)?;
         let changes = rerun(
@@ -249,6 +327,7 @@ impl Bench {
             affected,
             &mut self.meter,
             &self.traces,
+            break_off,
         )?;
         let last = make_changes(&mut self.traces, changes);
         self.pairs = follow(self.alloc, self.pairs.take(), &self.traces, last.as_slice());

@@ -8,9 +8,9 @@ use sbl_script::ScriptFault;
 use std::alloc::AllocError;
 use thiserror::Error;
 
-/// Why an edit is refused. A refused edit changes nothing, except that the count of runs may be higher after `OutOfMemory`.
-/// Every error but `AmongCount`, `Script`, `OutOfMemory` and `MeterFull` is found without an allocation. The numbers and names
-/// are our own choice.
+/// Why an edit is refused. A refused edit changes nothing, except that the count of runs may be higher after `OutOfMemory` and
+/// `BrokenOff`. Every error but `AmongCount`, `Script`, `OutOfMemory`, `MeterFull` and `BrokenOff` is found without an allocation.
+/// The numbers and names are our own choice.
 #[derive(Debug, Drop, Clone, Copy, PartialEq, Eq, Error)]
 pub enum EditFault {
     /// The word is in the vocabulary.
@@ -52,6 +52,9 @@ pub enum EditFault {
     /// The script defines no grouping of this name.
     #[error("53 NoGrouping")]
     NoGrouping,
+    /// The edit was broken off before one of its runs, since its `BreakOff` said so. Only the calls that take one return this.
+    #[error("68 BrokenOff")]
+    BrokenOff,
 }
 
 /// The name of a fault of a script between two texts, without the fault's position or item.

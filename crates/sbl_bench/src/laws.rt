@@ -1,6 +1,7 @@
 //! Laws of the edits and the words.
 
 ghost use Rattle.std.specs.Prelude.{All};
+ghost use Rattle.sbl_bench.specs.BreakLaws.{BrokenEditShowsTheOld, OnlyGoodEditsBreak, PlainEditsEnd};
 ghost use Rattle.sbl_bench.specs.KeptRuns.{IsWord};
 ghost use Rattle.sbl_bench.specs.EqualScripts.{EqualScriptRunsNothing};
 ghost use Rattle.sbl_bench.specs.OneVerdict.{VerdictIsOne};
@@ -32,6 +33,17 @@ pub fn undo_restores()
     ensures script { UndoOfScript }
     ensures limit { UndoOfLimit }
 {}
+
+/// An edit that nobody can break off is not broken off. An edit that was broken off is one that would have been accepted, and after
+/// it the bench shows what it showed before.
+pub fn broken_off_changes_nothing()
+    ensures plain { PlainEditsEnd }
+    ensures good { OnlyGoodEditsBreak }
+    ensures shows { BrokenEditShowsTheOld }
+{
+    one_edit();
+    one_reading();
+}
 
 /// Each word of a vocabulary has 1 to 255 characters. So the first 256 characters of a text determine whether it is one of the
 /// words.

@@ -6,11 +6,13 @@
 
 mod affected_words;
 mod bench;
+mod break_off;
 mod change;
 mod changed_row;
 mod class;
 mod edit;
 mod fault;
+mod fresh_run;
 mod last_run;
 pub mod laws;
 mod meeting_rows;
@@ -24,6 +26,7 @@ mod traces;
 mod word_hash;
 
 pub use bench::{Bench, MAX_LIMIT, MAX_WORDS};
+pub use break_off::{BreakOff, NeverBreak};
 pub use fault::EditFault;
 pub use progress::{NoProgress, Progress};
 pub use refusal::word_fault;

@@ -5,18 +5,21 @@ ghost use Rattle.std.specs.List.{IsDistinct, filter};
 ghost use Rattle.std.specs.Str.{bytes_eq};
 ghost use Rattle.sbl_ast.specs.Source.{Source};
 ghost use Rattle.sbl_machine.specs.MachineOf.{IsLinkedMachineOf};
+ghost use Rattle.sbl_bench.specs.BreakingOff.{BreaksIfTold};
 ghost use Rattle.sbl_bench.specs.Contents.{IsFaultOrMemory, max_runs, opening_fault, word_fault};
 ghost use Rattle.sbl_bench.specs.KeptRuns.{AreFresh, IsFresh, IsWord, words_in};
 ghost use Rattle.sbl_bench.specs.Vocabulary.{is_word, vocabulary, with_word};
 ghost use Rattle.sbl_bench.specs.inside.ProofNames.{is_full};
-ghost use Rattle.sbl_bench.specs.inside.Stops.{IsStopOf};
+ghost use Rattle.sbl_bench.specs.inside.Stops.{IsCut, IsStopOf};
 ghost use Rattle.sbl_bench.specs.inside.WordLists.{new_words, runs_of_word};
 ghost use Rattle.sbl_rows.specs.Classes.{texts_of};
 ghost use Rattle.sbl_rows.specs.KnownOutcomes.{has_text};
 ghost use Rattle.sbl_rows.specs.Setting.{Setting, under};
 
 use crate::bench::{Bench, MAX_WORDS};
+use crate::break_off::{BreakOff, NeverBreak};
 use crate::fault::EditFault;
+use crate::fresh_run::run_or_break;
 use crate::last_run::{LastRun, SharedLists};
 use crate::refusal::word_fault;
 use crate::traces::{Traces, has_word};
@@ -26,6 +29,7 @@ use std::alloc::{AllocError, Global};
 use std::collections::BTreeSet;
 
 impl Bench {
+    ghost use Rattle.sbl_bench.specs.BreakingOff.{EditsOrBreaks};
     ghost use Rattle.sbl_bench.specs.KeptRuns.{contents_of};
     ghost use Rattle.sbl_bench.specs.Edits.{Edits, Words};
     ghost use Rattle.sbl_bench.specs.LeavesChanges.{LeavesChanges};
@@ -44,6 +48,25 @@ impl Bench {
         ensures edits { Edits result (contents_of self.old) (Words (map (λ w. w.items) words.now)) (contents_of self.new) }
         ensures changes { LeavesChanges result self.old self.new }
     {
+        self.replace_words_or_break(words, &mut NeverBreak {})
+    }
+
+    /// Does what `replace_words` does, or is broken off.
+    ///
+    /// # Errors
+    ///
+    /// As `replace_words`, and returns `BrokenOff` if `break_off` says so before a run. Then all is as before but for the count of
+    /// runs, which has risen by the runs that were made.
+    pub fn replace_words_or_break<B: BreakOff>(
+        &mut self,
+        words: &[Vec<char>],
+        break_off: &mut B,
+    ) -> Result<(), EditFault>
+        ensures edits { EditsOrBreaks result (contents_of self.old) (Words (map (λ w. w.items) words.now)) (contents_of self.new) }
+        ensures changes { LeavesChanges result self.old self.new }
+        ensures untold { OnOk result (B.said break_off.new ≡ B.said break_off.old) }
+        ensures told { IfErr result (λ f. BreaksIfTold (B.said break_off.old) (B.said break_off.new) f) }
+    {
         let list = vocabulary_of(self.alloc, words)?;
         let traces = make_traces(
             self.alloc,
@@ -52,6 +75,7 @@ impl Bench {
             &mut self.meter,
             &self.traces,
             &list,
+            break_off,
         )?;
         self.traces = traces;
         self.last = Vec::new(self.alloc);
@@ -132,30 +156,12 @@ fn count_new(traces: &Traces, words: &[&[char]]) -> usize
     count
 }
 
-/// Returns a new run of a word, which shares a list of touches if one of them is equal. Returns `AllocError` if an allocation fails.
-fn run_new(
-    alloc: Global,
-    machine: &Machine<Table>,
-    limit: u32,
-    meter: &mut Meter,
-    lists: &mut SharedLists,
-    word: &[char],
-) -> Result<LastRun, AllocError>
-    requires sound { IsWord word.now }
-    requires room { meter.old < max_runs }
-    ensures fresh { (s : Source) → IsLinkedMachineOf machine.now s → IfOk result (λ run. IsFresh (under s limit) word.now run) }
-    ensures counted { OnOk result (meter.new ≡ meter.old + 1) }
-    ensures some { OnErr result ((n : ℕ) × (n ≤ 1) × (meter.new ≡ meter.old + n)) }
-{
-    match machine.trace(alloc, meter, word, limit) {
-        Ok(traced) => lists.keep(alloc, meter, traced),
-        Err(_) => Err(AllocError),
-    }
-}
-
-/// Returns the run of a word: a copy of that which it has in the vocabulary before or, if it has none, a new one. Returns `AllocError` if
-/// an allocation fails.
-fn run_of(
+/// Returns the run of a word: a copy of that which it has in the vocabulary before or, if it has none, a new one.
+///
+/// # Errors
+///
+/// Returns `OutOfMemory` if an allocation fails, and `BrokenOff` if `break_off` says so before the run.
+fn run_of<B: BreakOff>(
     alloc: Global,
     machine: &Machine<Table>,
     limit: u32,
@@ -163,16 +169,22 @@ fn run_of(
     lists: &mut SharedLists,
     before: &Traces,
     word: &[char],
-) -> Result<LastRun, AllocError>
+    break_off: &mut B,
+) -> Result<LastRun, EditFault>
     requires sound { IsWord word.now }
     requires room { meter.old + runs_of_word (words_in before.now.entries) word.now ≤ max_runs }
     ensures fresh { (s : Source) → IsLinkedMachineOf machine.now s → AreFresh (under s limit) before.now.entries → IfOk result (λ run. IsFresh (under s limit) word.now run) }
     ensures counted { OnOk result (meter.new ≡ meter.old + runs_of_word (words_in before.now.entries) word.now) }
-    ensures some { OnErr result ((n : ℕ) × (n ≤ runs_of_word (words_in before.now.entries) word.now) × (meter.new ≡ meter.old + n)) }
+    ensures cut { IfErr result (λ f. IsCut (runs_of_word (words_in before.now.entries) word.now) f meter.old meter.new) }
+    ensures untold { OnOk result (B.said break_off.new ≡ B.said break_off.old) }
+    ensures told { IfErr result (λ f. BreaksIfTold (B.said break_off.old) (B.said break_off.new) f) }
 {
     match before.get(word) {
-        Some(last) => last.copy(alloc),
-        None => run_new(alloc, machine, limit, meter, lists, word),
+        Some(last) => match last.copy(alloc) {
+            Ok(copy) => Ok(copy),
+            Err(_) => Err(EditFault::OutOfMemory),
+        },
+        None => run_or_break(alloc, machine, limit, meter, lists, word, break_off),
     }
 }
 
@@ -187,29 +199,37 @@ fn put(alloc: Global, traces: &mut Traces, word: &[char], last: LastRun) -> Resu
     Ok(())
 }
 
-/// Returns the words with their runs, each word that is in the vocabulary before with a copy of its run. Returns `AllocError` if an
-/// allocation fails.
-fn runs_of(
+/// Returns the words with their runs, each word that is in the vocabulary before with a copy of its run.
+///
+/// # Errors
+///
+/// Returns `OutOfMemory` if an allocation fails, and `BrokenOff` if `break_off` says so before a run.
+fn runs_of<B: BreakOff>(
     alloc: Global,
     machine: &Machine<Table>,
     limit: u32,
     meter: &mut Meter,
     before: &Traces,
     words: &[&[char]],
-) -> Result<Traces, AllocError>
+    break_off: &mut B,
+) -> Result<Traces, EditFault>
     requires sound { All IsWord (texts_of words.now) }
     requires distinct { IsDistinct bytes_eq (texts_of words.now) }
     requires room { meter.old + length (new_words (words_in before.now.entries) (texts_of words.now)) ≤ max_runs }
     ensures words { IfOk result (λ traces. words_in traces.entries ≡ texts_of words.now) }
     ensures fresh { (s : Source) → IsLinkedMachineOf machine.now s → AreFresh (under s limit) before.now.entries → IfOk result (λ traces. AreFresh (under s limit) traces.entries) }
     ensures counted { OnOk result (meter.new ≡ meter.old + length (new_words (words_in before.now.entries) (texts_of words.now))) }
-    ensures some { OnErr result ((n : ℕ) × (n ≤ length (new_words (words_in before.now.entries) (texts_of words.now))) × (meter.new ≡ meter.old + n)) }
+    ensures stop { IfErr result (λ f. IsStopOf (length (new_words (words_in before.now.entries) (texts_of words.now))) f meter.old meter.new) }
+    ensures untold { OnOk result (B.said break_off.new ≡ B.said break_off.old) }
+    ensures told { IfErr result (λ f. BreaksIfTold (B.said break_off.old) (B.said break_off.new) f) }
 {
     let mut traces = IndexMap::with_hasher(alloc, *before.hasher());
     traces.reserve(words.len())?;
     let mut lists = SharedLists::new(alloc);
     for word in words {
-        let last = run_of(alloc, machine, limit, meter, &mut lists, before, word)?;
+        let last = run_of(
+            alloc, machine, limit, meter, &mut lists, before, word, break_off,
+        )?;
         put(alloc, &mut traces, word, last)?;
     }
     Ok(traces)
@@ -219,14 +239,15 @@ fn runs_of(
 ///
 /// # Errors
 ///
-/// Returns `MeterFull` if fewer counts of runs are left than there are new words, and `OutOfMemory` if an allocation fails.
-fn make_traces(
+/// Returns `MeterFull` if fewer counts of runs are left than there are new words, and the faults of `runs_of`.
+fn make_traces<B: BreakOff>(
     alloc: Global,
     machine: &Machine<Table>,
     limit: u32,
     meter: &mut Meter,
     before: &Traces,
     words: &[&[char]],
+    break_off: &mut B,
 ) -> Result<Traces, EditFault>
     requires sound { All IsWord (texts_of words.now) }
     requires distinct { IsDistinct bytes_eq (texts_of words.now) }
@@ -235,10 +256,12 @@ fn make_traces(
     ensures counted { OnOk result (meter.new ≡ meter.old + length (new_words (words_in before.now.entries) (texts_of words.now))) }
     ensures room { OnOk result (length (new_words (words_in before.now.entries) (texts_of words.now)) ≤ max_runs - meter.old) }
     ensures stop { IfErr result (λ f. IsStopOf (length (new_words (words_in before.now.entries) (texts_of words.now))) f meter.old meter.new) }
+    ensures untold { OnOk result (B.said break_off.new ≡ B.said break_off.old) }
+    ensures told { IfErr result (λ f. BreaksIfTold (B.said break_off.old) (B.said break_off.new) f) }
 {
     if u64::MAX - meter.count() < count_new(before, words) as u64 {
         return Err(EditFault::MeterFull);
     }
-    let traces = runs_of(alloc, machine, limit, meter, before, words)?;
+    let traces = runs_of(alloc, machine, limit, meter, before, words, break_off)?;
     Ok(traces)
 }

@@ -59,11 +59,15 @@ compare_app =
 abbrev pub from_rule : Rule
 from_rule = record (new_rule (codes "from")) { long = Some (codes "from"); value_names = 1 }
 
--- `work` has two files, the faces of its answers, and the text that it begins with
+-- `--stop FILE`: an option with one value
+abbrev pub stop_rule : Rule
+stop_rule = record (new_rule (codes "stop")) { long = Some (codes "stop"); value_names = 1 }
+
+-- `work` has two files, the faces of its answers, the text that it begins with, and the file that breaks an edit off
 abbrev pub work_app : App
 work_app =
-    with_rule (with_rule (with_rule (with_rule (with_rule (verb_app (codes "work")) (required_rule (codes "SCRIPT"))) (new_rule (codes "WORDS")))
-    (flag (codes "rows"))) (flag (codes "text"))) from_rule
+    with_rule (with_rule (with_rule (with_rule (with_rule (with_rule (verb_app (codes "work")) (required_rule (codes "SCRIPT")))
+    (new_rule (codes "WORDS"))) (flag (codes "rows"))) (flag (codes "text"))) from_rule) stop_rule
 
 -- the program itself
 abbrev pub top : App

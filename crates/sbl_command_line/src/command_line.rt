@@ -3,7 +3,7 @@ ghost use Rattle.std.specs.Prelude.{◌≡◌, IfOk, None, Some, codes, false, m
 ghost use Rattle.std.specs.String.{string_bytes};
 ghost use Rattle.clap.specs.Walk.{rule_of};
 ghost use Rattle.clap.specs.Words.{Text, app_of, first_value, found_of, new_rule, one_text};
-ghost use Rattle.sbl_command_line.specs.CommandLine.{IsFlag, IsGiven, IsMissing, IsVerb, LacksFlag, check_app, compare_app, flag, flag_in, form_rule, from_rule, program, required_rule, run_app, session_app, stem_app, filter_app, value_in, verb_app, verb_and_external, work_app};
+ghost use Rattle.sbl_command_line.specs.CommandLine.{IsFlag, IsGiven, IsMissing, IsVerb, LacksFlag, check_app, compare_app, flag, flag_in, form_rule, from_rule, program, required_rule, run_app, session_app, stem_app, stop_rule, filter_app, value_in, verb_app, verb_and_external, work_app};
 
 use clap::error::ErrorKind;
 use clap::{Arg, ArgAction, ArgMatches, Command, Error};
@@ -69,6 +69,8 @@ pub struct Options {
     pub face: Option<Face>,
     /// The file of the text that `work` begins with, if it is not that of the script.
     pub from: Option<String>,
+    /// The file that breaks an edit of `work` off if it exists.
+    pub stop: Option<String>,
     /// The name of the form in which `run` writes a list of stems, if it has one.
     pub form: Option<String>,
 }
@@ -240,6 +242,9 @@ const ROWS_HELP: &str = "Answers in rows, for programs";
 const FROM_HELP: &str = "Begins with the script in this file; reload and save mean SCRIPT";
 
 /// The help of an argument.
+const STOP_HELP: &str = "Breaks an edit off if this file exists: no 68 BrokenOff";
+
+/// The help of an argument.
 const FORM_HELP: &str = "Writes a list of stems: synonym, override, tsv or stems";
 
 /// The help of an argument.
@@ -291,6 +296,17 @@ fn from_arg<'a>(alloc: Global) -> Arg<'a>
         .long("from")
         .value_name("TEXT")
         .help(FROM_HELP)
+}
+
+/// Returns the definition of `--stop FILE`.
+fn stop_arg<'a>(alloc: Global) -> Arg<'a>
+    ensures rule { rule_of result ≡ stop_rule }
+    ensures here { result.global ≡ false }
+{
+    Arg::new(alloc, "stop")
+        .long("stop")
+        .value_name("FILE")
+        .help(STOP_HELP)
 }
 
 /// Returns the definition of `--as FORM`.
@@ -381,8 +397,8 @@ fn compare_command<'a>(alloc: Global) -> Result<Command<'a>, AllocError>
         .arg(flag_arg(alloc, "rows", ROWS_HELP))
 }
 
-/// Returns the definition of `work`: a subcommand with the files SCRIPT and WORDS, the flags `--rows` and `--text`, and the option
-/// `--from TEXT`.
+/// Returns the definition of `work`: a subcommand with the files SCRIPT and WORDS, the flags `--rows` and `--text`, and the options
+/// `--from TEXT` and `--stop FILE`.
 fn work_command<'a>(alloc: Global) -> Result<Command<'a>, AllocError>
     ensures { IfOk result (λ c. app_of c ≡ work_app) }
 {
@@ -391,7 +407,8 @@ fn work_command<'a>(alloc: Global) -> Result<Command<'a>, AllocError>
         .arg(file_arg(alloc, "WORDS", WORDS_HELP))?
         .arg(flag_arg(alloc, "rows", ROWS_HELP))?
         .arg(flag_arg(alloc, "text", "Answers in text, for people"))?
-        .arg(from_arg(alloc))
+        .arg(from_arg(alloc))?
+        .arg(stop_arg(alloc))
 }
 
 /// Returns the text of an argument, if it is given. Returns `AllocError` if an allocation fails.
@@ -465,6 +482,7 @@ pub fn read_words<'a>(alloc: Global, words: &'a [String]) -> Result<Wanted, Erro
     ensures commands { IfOk result (λ wanted. option_map string_bytes wanted.options.commands ≡ value_in (codes "COMMANDS") (map string_bytes words.now)) }
     ensures stems { IfOk result (λ wanted. option_map string_bytes wanted.options.stems ≡ value_in (codes "STEMS") (map string_bytes words.now)) }
     ensures from { IfOk result (λ wanted. option_map string_bytes wanted.options.from ≡ value_in (codes "from") (map string_bytes words.now)) }
+    ensures stop { IfOk result (λ wanted. option_map string_bytes wanted.options.stop ≡ value_in (codes "stop") (map string_bytes words.now)) }
     ensures form { IfOk result (λ wanted. option_map string_bytes wanted.options.form ≡ value_in (codes "as") (map string_bytes words.now)) }
     ensures strict { IfOk result (λ wanted. IsFlag (flag_in (codes "strict") (map string_bytes words.now)) wanted.options.is_strict) }
     ensures places { IfOk result (λ wanted. IsFlag (flag_in (codes "places") (map string_bytes words.now)) wanted.options.shows_places) }
@@ -502,6 +520,7 @@ pub fn read_words<'a>(alloc: Global, words: &'a [String]) -> Result<Wanted, Erro
     let commands = text_of(alloc, options, "COMMANDS")?;
     let stems = text_of(alloc, options, "STEMS")?;
     let from = text_of(alloc, options, "from")?;
+    let stop = text_of(alloc, options, "stop")?;
     let form = text_of(alloc, options, "as")?;
     let is_strict = has_flag(options, "strict");
     let shows_places = has_flag(options, "places");
@@ -520,6 +539,7 @@ pub fn read_words<'a>(alloc: Global, words: &'a [String]) -> Result<Wanted, Erro
             shows_places,
             face,
             from,
+            stop,
             form,
         },
     })

@@ -1,7 +1,8 @@
 -- A desk without memory addresses; marking, undoing and redoing.
-use Rattle.std.specs.Prelude.{◌≡◌, ℕ, List, [], ◌∷◌, ◌++◌, Option, Some, None, Result, Ok, Err, map, string_bytes}
+use Rattle.std.specs.Prelude.{◌≡◌, ℕ, Bool, List, [], ◌∷◌, ◌++◌, Option, Some, None, Result, Ok, Err, map, string_bytes}
 use Rattle.std.specs.Option.{option_map}
 use Rattle.sbl_bench.specs.Contents.{Contents}
+use Rattle.sbl_bench.specs.BreakingOff.{BreaksIfTold, EditsOrBreaks}
 use Rattle.sbl_bench.specs.Edits.{Edits}
 use Rattle.sbl_rows.specs.Rows.{Row}
 use Rattle.sbl_semantics.specs.Outcome.{outcome_of}
@@ -81,7 +82,8 @@ abbrev pub turned_edit : Contents → Option (List ℕ) → PastEdit → PastEdi
 turned_edit s text edit = record edit { turn = back s text edit.turn }
 
 -- What undoes or redoes: the turn of the last edit in the first list is made, and this edit becomes the last of the other list,
--- with what takes the turn back. If there is none, or the bench refuses it, nothing changes but, maybe, the count of runs.
+-- with what takes the turn back. If there is none, or the bench refuses it or is broken off, nothing changes but, maybe, the count
+-- of runs.
 abbrev pub Turns : Result (Unit {0}) HistoryFault → Contents → Contents → Option (List ℕ) → Option (List ℕ)
     → List PastEdit → List PastEdit → List PastEdit → List PastEdit → Type 0
 Turns (Ok u) s t text new_text from to new_from new_to =
@@ -90,7 +92,7 @@ Turns (Ok u) s t text new_text from to new_from new_to =
 Turns (Err fault.Nothing) s t text new_text from to new_from new_to =
     (from ≡ []) × (t ≡ s) × (new_text ≡ text) × (new_from ≡ from) × (new_to ≡ to)
 Turns (Err (fault.Edit f)) s t text new_text from to new_from new_to =
-    (rest : List PastEdit) × (edit : PastEdit) × (from ≡ rest ++ edit ∷ []) × Edits (Err f) s (edit_of edit.turn) t
+    (rest : List PastEdit) × (edit : PastEdit) × (from ≡ rest ++ edit ∷ []) × EditsOrBreaks (Err f) s (edit_of edit.turn) t
     × (new_text ≡ text) × (new_from ≡ from) × (new_to ≡ to)
 
 -- the latest edit is undone
@@ -102,3 +104,8 @@ Undoes result s d t e =
 abbrev pub Redoes : Result (Unit {0}) HistoryFault → Contents → State → Contents → State → Type 0
 Redoes result s d t e =
     Turns result s t d.text e.text d.past.later d.past.earlier e.past.later e.past.earlier × (e.marked ≡ d.marked) × (e.refused ≡ d.refused)
+
+-- the fault is that of an edit that was broken off only if the caller said so in the call
+abbrev pub TurnBreaksIfTold : Bool → Bool → HistoryFault → Type 0
+TurnBreaksIfTold said said_now fault.Nothing = said_now ≡ said
+TurnBreaksIfTold said said_now (fault.Edit f) = BreaksIfTold said said_now f

@@ -1,6 +1,7 @@
 -- Edits of the setting of a bench that are remembered.
 use Rattle.std.specs.Prelude.{◌≡◌, ◌⊎◌, ℕ, List, Option, Result, Ok, Err}
 use Rattle.sbl_bench.specs.Contents.{Contents}
+use Rattle.sbl_bench.specs.BreakingOff.{EditsOrBreaks}
 use Rattle.sbl_bench.specs.Edits.{Edit, Edits, Replace}
 use Rattle.sbl_bench.specs.declared.fault.EditFault.{EditFault}
 use Rattle.sbl_bench.specs.declared.fault.EditFault.TheVariants as fault
@@ -27,10 +28,11 @@ pub record IsNoted (kind : EditKind) (s t : Contents) (d e : State) (text : Opti
   pub refused : e.refused ≡ d.refused
   pub past : Remembers kind (text_in s d.text) (SameText s t) d e
 
--- The bench makes an edit of the script, and the desk notes it with its kind and this text. After a fault the desk is unchanged.
+-- The bench makes an edit of the script, and the desk notes it with its kind and this text. After a fault, and if the edit is broken
+-- off, the desk is unchanged.
 abbrev pub Replaces : Result (Unit {0}) EditFault → EditKind → Edit → Option (List ℕ) → Contents → State → Contents → State → Type 0
 Replaces (Ok u) kind edit text s d t e = Edits (Ok u) s edit t × IsNoted kind s t d e text
-Replaces (Err f) kind edit text s d t e = Edits (Err f) s edit t × (e ≡ d)
+Replaces (Err f) kind edit text s d t e = EditsOrBreaks (Err f) s edit t × (e ≡ d)
 
 -- The same for a part of the script. The text that is kept then is a text of the current script, if any is kept; or an allocation
 -- failed before anything was tried.

@@ -1,13 +1,14 @@
 //! A desk: what is kept beside a bench at work, so that its edits can be undone and its rows compared with those at a mark.
 ghost use Rattle.std.specs.Option.{option_map};
-ghost use Rattle.std.specs.Prelude.{◌≡◌, ℕ, List, [], IfOk, IfSome, OnErr, OnOk, None, Some, length, map, string_bytes, true};
+ghost use Rattle.std.specs.Prelude.{◌≡◌, ℕ, List, [], IfErr, IfOk, IfSome, OnErr, OnOk, None, Some, length, map, string_bytes, true};
 ghost use Rattle.sbl_bench.specs.Contents.{rows_now};
+ghost use Rattle.sbl_bench.specs.BreakingOff.{BreaksIfTold};
 ghost use Rattle.sbl_bench.specs.Edits.{Whole};
 ghost use Rattle.sbl_bench.specs.KeptRuns.{contents_of};
 ghost use Rattle.sbl_print.specs.Canonical.{canonical};
 ghost use Rattle.sbl_rows.specs.Rows.{view_row};
 ghost use Rattle.sbl_rows.specs.StemRows.{rows_with};
-ghost use Rattle.sbl_history.specs.Desks.{Redoes, Undoes, state_of, text_in, view_kind, view_text};
+ghost use Rattle.sbl_history.specs.Desks.{Redoes, TurnBreaksIfTold, Undoes, state_of, text_in, view_kind, view_text};
 ghost use Rattle.sbl_history.specs.History.{OfScript};
 ghost use Rattle.sbl_history.specs.Listing as listing;
 ghost use Rattle.sbl_history.specs.Refused.{view_refused};
@@ -21,7 +22,7 @@ use crate::marks::{MarkedRow, copy_rows, rows_of_stems, views_of};
 use crate::refused::Refused;
 use crate::splice::{SplicedText, splice};
 use crate::steps::{HeldEdit, History, Step};
-use sbl_bench::{Bench, EditFault, Row};
+use sbl_bench::{Bench, BreakOff, EditFault, Row};
 use sbl_script::Part;
 use std::alloc::{AllocError, Global};
 
@@ -143,43 +144,53 @@ impl Desk {
         });
     }
 
-    /// Replaces the whole script, as `Bench::replace_script` does, and remembers the edit if it changed the script.
+    /// Replaces the whole script, as `Bench::replace_script_or_break` does, and remembers the edit if it changed the script.
     ///
     /// # Errors
     ///
-    /// Returns the faults of `Bench::replace_script`. Then the desk is unchanged.
+    /// Returns the faults of `Bench::replace_script_or_break`. Then the desk is unchanged.
     #[tactic(auto, using(crate::proofs::Refusing::nothing_tried))]
-    pub fn replace(&mut self, bench: &mut Bench, text: &[u8]) -> Result<(), EditFault>
-        ensures { Replaces result OfScript (Whole text.now) (Some text.now) (contents_of bench.old) (state_of self.old) (contents_of bench.new) (state_of self.new) }
+    pub fn replace<B: BreakOff>(
+        &mut self,
+        bench: &mut Bench,
+        text: &[u8],
+        break_off: &mut B,
+    ) -> Result<(), EditFault>
+        ensures replaces { Replaces result OfScript (Whole text.now) (Some text.now) (contents_of bench.old) (state_of self.old) (contents_of bench.new) (state_of self.new) }
+        ensures untold { OnOk result (B.said break_off.new ≡ B.said break_off.old) }
+        ensures told { IfErr result (λ f. BreaksIfTold (B.said break_off.old) (B.said break_off.new) f) }
     {
         let kept = Vec::from_slice(self.alloc, text)?;
         let before = self.before(bench)?;
-        bench.replace_script(text)?;
+        bench.replace_script_or_break(text, break_off)?;
         self.note(bench, HeldKind::Script, before, Some(kept));
         Ok(())
     }
 
-    /// Replaces a part of the script by a text, as `Bench::replace` does, and remembers the edit if it changed the script. The
+    /// Replaces a part of the script by a text, as `Bench::replace_or_break` does, and remembers the edit if it changed the script. The
     /// current text is the text before with this part put into it, if that is a text of the script after the edit; otherwise the
     /// canonical text.
     ///
     /// # Errors
     ///
-    /// Returns the faults of `Bench::replace`. Returns `OutOfMemory` also if an allocation fails before the edit is tried. Then
+    /// Returns the faults of `Bench::replace_or_break`. Returns `OutOfMemory` also if an allocation fails before the edit is tried. Then
     /// the desk is unchanged.
-    pub fn replace_part(
+    pub fn replace_part<B: BreakOff>(
         &mut self,
         bench: &mut Bench,
         part: Part<'_>,
         text: &str,
+        break_off: &mut B,
     ) -> Result<(), EditFault>
-        ensures { ReplacesPart result (view_part part.entry) text.now (contents_of bench.old) (state_of self.old) (contents_of bench.new) (state_of self.new) }
+        ensures replaces { ReplacesPart result (view_part part.entry) text.now (contents_of bench.old) (state_of self.old) (contents_of bench.new) (state_of self.new) }
+        ensures untold { OnOk result (B.said break_off.new ≡ B.said break_off.old) }
+        ensures told { IfErr result (λ f. BreaksIfTold (B.said break_off.old) (B.said break_off.new) f) }
     {
         let kind = HeldKind::of_part(self.alloc, part)?;
         let before = self.before(bench)?;
         let external = bench.script().external();
         let found = splice(self.alloc, &before.text, external, part, text)?;
-        bench.replace(part, text)?;
+        bench.replace_or_break(part, text, break_off)?;
         let kept = text_in_force(self.alloc, bench, found);
         self.note(bench, kind, before, kept);
         Ok(())
@@ -189,15 +200,23 @@ impl Desk {
     ///
     /// # Errors
     ///
-    /// Returns `Nothing` if there is none, and `Edit` with the fault of the bench: `MeterFull` or `OutOfMemory`, or `Script`
-    /// with `ScriptTooLong` if the script before was made by an edit of a part and its canonical text has more than 1,048,576
+    /// Returns `Nothing` if there is none, and `Edit` with the fault of the bench: `MeterFull`, `OutOfMemory` or `BrokenOff`, or
+    /// `Script` with `ScriptTooLong` if the script before was made by an edit of a part and its canonical text has more than 1,048,576
     /// bytes. Then nothing changes but, maybe, the count of runs.
-    pub fn undo(&mut self, bench: &mut Bench) -> Result<(), HistoryFault>
-        ensures { Undoes result (contents_of bench.old) (state_of self.old) (contents_of bench.new) (state_of self.new) }
+    pub fn undo<B: BreakOff>(
+        &mut self,
+        bench: &mut Bench,
+        break_off: &mut B,
+    ) -> Result<(), HistoryFault>
+        ensures turns { Undoes result (contents_of bench.old) (state_of self.old) (contents_of bench.new) (state_of self.new) }
+        ensures untold { OnOk result (B.said break_off.new ≡ B.said break_off.old) }
+        ensures told { IfErr result (λ f. TurnBreaksIfTold (B.said break_off.old) (B.said break_off.new) f) }
     {
         let text = &mut self.text;
         let past = &mut self.history;
-        turn(self.alloc, bench, text, &mut past.earlier, &mut past.later)
+        let from = &mut past.earlier;
+        let to = &mut past.later;
+        turn(self.alloc, bench, text, from, to, break_off)
     }
 
     /// Redoes the edit that was undone last.
@@ -205,12 +224,20 @@ impl Desk {
     /// # Errors
     ///
     /// As `undo`.
-    pub fn redo(&mut self, bench: &mut Bench) -> Result<(), HistoryFault>
-        ensures { Redoes result (contents_of bench.old) (state_of self.old) (contents_of bench.new) (state_of self.new) }
+    pub fn redo<B: BreakOff>(
+        &mut self,
+        bench: &mut Bench,
+        break_off: &mut B,
+    ) -> Result<(), HistoryFault>
+        ensures turns { Redoes result (contents_of bench.old) (state_of self.old) (contents_of bench.new) (state_of self.new) }
+        ensures untold { OnOk result (B.said break_off.new ≡ B.said break_off.old) }
+        ensures told { IfErr result (λ f. TurnBreaksIfTold (B.said break_off.old) (B.said break_off.new) f) }
     {
         let text = &mut self.text;
         let past = &mut self.history;
-        turn(self.alloc, bench, text, &mut past.later, &mut past.earlier)
+        let from = &mut past.later;
+        let to = &mut past.earlier;
+        turn(self.alloc, bench, text, from, to, break_off)
     }
 
     /// Keeps a text that was refused, in place of the last one.

@@ -1,12 +1,12 @@
 //! The edits that can be undone and redone.
-ghost use Rattle.std.specs.Prelude.{◌≡◌, ◌≤◌, ◌<◌, ◌+◌, ◌-◌, ◌++◌, ◌∷◌, [], Some, drop, length, map, IfOk, OnOk, OnErr, vec_len, vec_capacity};
-ghost use Rattle.sbl_bench.specs.Edits.{Edits};
+ghost use Rattle.std.specs.Prelude.{◌≡◌, ◌≤◌, ◌<◌, ◌+◌, ◌-◌, ◌++◌, ◌∷◌, [], Some, drop, length, map, IfErr, IfOk, OnOk, OnErr, vec_len, vec_capacity};
+ghost use Rattle.sbl_bench.specs.BreakingOff.{BreaksIfTold, EditsOrBreaks};
 ghost use Rattle.sbl_bench.specs.KeptRuns.{contents_of};
-ghost use Rattle.sbl_history.specs.Desks.{Turns, back, past_of, text_after, text_in, view_edit, view_edits, view_step, view_text};
+ghost use Rattle.sbl_history.specs.Desks.{TurnBreaksIfTold, Turns, back, past_of, text_after, text_in, view_edit, view_edits, view_step, view_text};
 ghost use Rattle.sbl_history.specs.History.{ToLimit, ToText, edit_of, latest, remember_edit};
 
 use crate::steps::{HeldEdit, History, Step};
-use sbl_bench::{Bench, EditFault};
+use sbl_bench::{Bench, BreakOff, EditFault};
 use std::alloc::{AllocError, Global};
 use std::mem::replace;
 
@@ -72,12 +72,13 @@ fn push_latest(edits: &mut Vec<HeldEdit>, edit: HeldEdit)
 ///
 /// Returns `Nothing` if there is none, and `Edit` with the fault of the bench. Then nothing changes but, maybe, the count
 /// of runs.
-pub(crate) fn turn(
+pub(crate) fn turn<B: BreakOff>(
     alloc: Global,
     bench: &mut Bench,
     text: &mut Option<Vec<u8>>,
     from: &mut Vec<HeldEdit>,
     to: &mut Vec<HeldEdit>,
+    break_off: &mut B,
 ) -> Result<(), HistoryFault>
     requires few { vec_len from.old + vec_len to.old ≤ 100 }
     requires room { 100 ≤ vec_capacity from.old }
@@ -86,11 +87,13 @@ pub(crate) fn turn(
     ensures few { vec_len from.new + vec_len to.new ≡ vec_len from.old + vec_len to.old }
     ensures room { vec_capacity from.new ≡ vec_capacity from.old }
     ensures to_room { vec_capacity to.new ≡ vec_capacity to.old }
+    ensures untold { OnOk result (B.said break_off.new ≡ B.said break_off.old) }
+    ensures told { IfErr result (λ f. TurnBreaksIfTold (B.said break_off.old) (B.said break_off.new) f) }
 {
     let Some(mut edit) = from.pop() else {
         return Err(HistoryFault::Nothing);
     };
-    match exchange(alloc, bench, text, &mut edit.step) {
+    match exchange(alloc, bench, text, &mut edit.step, break_off) {
         Ok(()) => {
             to.push_reserved(edit);
             Ok(())
@@ -103,48 +106,60 @@ pub(crate) fn turn(
 }
 
 /// Makes what a step has current. Then the step has what was current before.
-fn exchange(
+fn exchange<B: BreakOff>(
     alloc: Global,
     bench: &mut Bench,
     text: &mut Option<Vec<u8>>,
     step: &mut Step,
+    break_off: &mut B,
 ) -> Result<(), EditFault>
-    ensures edits { Edits result (contents_of bench.old) (edit_of (view_step step.old)) (contents_of bench.new) }
+    ensures edits { EditsOrBreaks result (contents_of bench.old) (edit_of (view_step step.old)) (contents_of bench.new) }
     ensures exchanged { OnOk result ((view_step step.new ≡ back (contents_of bench.old) (view_text text.old) (view_step step.old)) × (view_text text.new ≡ text_after (view_text text.old) (view_step step.old))) }
     ensures kept { OnErr result ((step.new ≡ step.old) × (text.new ≡ text.old)) }
+    ensures untold { OnOk result (B.said break_off.new ≡ B.said break_off.old) }
+    ensures told { IfErr result (λ f. BreaksIfTold (B.said break_off.old) (B.said break_off.new) f) }
 {
     match step {
-        Step::Text(other) => exchange_text(alloc, bench, text, other),
-        Step::Limit(limit) => exchange_limit(bench, limit),
+        Step::Text(other) => exchange_text(alloc, bench, text, other, break_off),
+        Step::Limit(limit) => exchange_limit(bench, limit, break_off),
     }
 }
 
 /// Replaces the whole script by a text. Then `other` has the text that was current before.
 #[tactic(auto, using(crate::proofs::Refusing::nothing_tried))]
-fn exchange_text(
+fn exchange_text<B: BreakOff>(
     alloc: Global,
     bench: &mut Bench,
     text: &mut Option<Vec<u8>>,
     other: &mut Vec<u8>,
+    break_off: &mut B,
 ) -> Result<(), EditFault>
-    ensures edits { Edits result (contents_of bench.old) (edit_of (ToText other.old.items)) (contents_of bench.new) }
+    ensures edits { EditsOrBreaks result (contents_of bench.old) (edit_of (ToText other.old.items)) (contents_of bench.new) }
     ensures exchanged { OnOk result ((other.new.items ≡ text_in (contents_of bench.old) (view_text text.old)) × (view_text text.new ≡ Some other.old.items)) }
     ensures kept { OnErr result ((other.new ≡ other.old) × (text.new ≡ text.old)) }
+    ensures untold { OnOk result (B.said break_off.new ≡ B.said break_off.old) }
+    ensures told { IfErr result (λ f. BreaksIfTold (B.said break_off.old) (B.said break_off.new) f) }
 {
     let before = text_of(alloc, bench, text)?;
-    bench.replace_script(other)?;
+    bench.replace_script_or_break(other, break_off)?;
     *text = Some(replace(other, before));
     Ok(())
 }
 
 /// Sets the limit. Then `limit` is the limit before.
-fn exchange_limit(bench: &mut Bench, limit: &mut u32) -> Result<(), EditFault>
-    ensures edits { Edits result (contents_of bench.old) (edit_of (ToLimit limit.old)) (contents_of bench.new) }
+fn exchange_limit<B: BreakOff>(
+    bench: &mut Bench,
+    limit: &mut u32,
+    break_off: &mut B,
+) -> Result<(), EditFault>
+    ensures edits { EditsOrBreaks result (contents_of bench.old) (edit_of (ToLimit limit.old)) (contents_of bench.new) }
     ensures exchanged { OnOk result (limit.new ≡ (contents_of bench.old).setting.limit) }
     ensures kept { OnErr result (limit.new ≡ limit.old) }
+    ensures untold { OnOk result (B.said break_off.new ≡ B.said break_off.old) }
+    ensures told { IfErr result (λ f. BreaksIfTold (B.said break_off.old) (B.said break_off.new) f) }
 {
     let before = bench.limit();
-    bench.set_limit(u64::from(*limit))?;
+    bench.set_limit_or_break(u64::from(*limit), break_off)?;
     *limit = before;
     Ok(())
 }

@@ -132,3 +132,4 @@ bench_refused old between new external s lines state edit.OutOfMemory begins too
 bench_refused old between new external s lines state edit.MeterFull begins took fault = (s, lines, (between, begins, took), fault)
 bench_refused old between new external s lines state edit.BadLimit begins took fault = (s, lines, (between, begins, took), fault)
 bench_refused old between new external s lines state edit.NoGrouping begins took fault = (s, lines, (between, begins, took), fault)
+bench_refused old between new external s lines state edit.BrokenOff begins took fault = (s, lines, (between, begins, took), fault)

@@ -180,6 +180,7 @@ loaded_ending bytes external new (Err (Open edit.OutOfMemory)) told p = absurd t
 loaded_ending bytes external new (Err (Open edit.MeterFull)) told p = open_ending bytes external new edit.MeterFull p
 loaded_ending bytes external new (Err (Open edit.BadLimit)) told p = open_ending bytes external new edit.BadLimit p
 loaded_ending bytes external new (Err (Open edit.NoGrouping)) told p = open_ending bytes external new edit.NoGrouping p
+loaded_ending bytes external new (Err (Open edit.BrokenOff)) told p = open_ending bytes external new edit.BrokenOff p
 loaded_ending bytes external new (Err (Input fault.Read)) told p = absurd told
 loaded_ending bytes external new (Err (Input fault.OutOfMemory)) told p = absurd told
 loaded_ending bytes external new (Err (Input fault.Write)) told (inl p) = absurd p

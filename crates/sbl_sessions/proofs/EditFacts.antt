@@ -39,6 +39,7 @@ answer_of_edit (Err (fault.Script f)) s t e h = (Enough, (Some (fault.Script f),
 answer_of_edit (Err fault.MeterFull) s t e h = (Enough, (Some fault.MeterFull, h, refl))
 answer_of_edit (Err fault.BadLimit) s t e h = (Enough, (Some fault.BadLimit, h, refl))
 answer_of_edit (Err fault.NoGrouping) s t e h = (Enough, (Some fault.NoGrouping, h, refl))
+answer_of_edit (Err fault.BrokenOff) s t e h = (Enough, (Some fault.BrokenOff, h, refl))
 
 -- a text that replaces something, by what is replaced and its bytes
 pub replaced_text : (r : Result (Unit {0}) EditFault) (s t : Contents) (named what : ScriptEdit) (text bytes answer : List ℕ) → named ≡ what → text ≡ bytes
@@ -92,6 +93,7 @@ refused_long (Err (fault.Script f)) s t word cut long short h = verdict_long s t
 refused_long (Err fault.MeterFull) s t word cut long short h = verdict_long s t word cut fault.MeterFull long short h
 refused_long (Err fault.BadLimit) s t word cut long short h = verdict_long s t word cut fault.BadLimit long short h
 refused_long (Err fault.NoGrouping) s t word cut long short h = verdict_long s t word cut fault.NoGrouping long short h
+refused_long (Err fault.BrokenOff) s t word cut long short h = verdict_long s t word cut fault.BrokenOff long short h
 
 all_of : (n : ℕ) (xs : List ℕ) → length xs ≤ n → take n xs ≡ xs
 all_of n xs h = grind (arith, common_steps)

@@ -106,6 +106,7 @@ removes_absent (Err (fault.Script f)) s t word cut none missing h = verdict_abse
 removes_absent (Err fault.MeterFull) s t word cut none missing h = verdict_absent s t word cut fault.MeterFull none h missing
 removes_absent (Err fault.BadLimit) s t word cut none missing h = verdict_absent s t word cut fault.BadLimit none h missing
 removes_absent (Err fault.NoGrouping) s t word cut none missing h = verdict_absent s t word cut fault.NoGrouping none h missing
+removes_absent (Err fault.BrokenOff) s t word cut none missing h = verdict_absent s t word cut fault.BrokenOff none h missing
 
 pub removes_first : (r : Result (Unit {0}) EditFault) (s t : Contents) (word : List ℕ) → Looks s.words word → Edits r s (Remove (take 256 word)) t → Edits r s (Remove word) t
 removes_first r s t word (Whole same) h = subst (λ (w : List ℕ). Edits r s (Remove w) t) same h

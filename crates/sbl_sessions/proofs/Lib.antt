@@ -5,3 +5,4 @@ pub mod SessionFacts
 pub mod CommandFacts
 pub mod NumberFacts
 pub mod OneAnswer
+pub mod BreakFacts

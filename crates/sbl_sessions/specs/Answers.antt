@@ -27,6 +27,7 @@ number_and_name fault.OutOfMemory = (codes "49", codes "OutOfMemory")
 number_and_name fault.MeterFull = (codes "50", codes "MeterFull")
 number_and_name fault.BadLimit = (codes "51", codes "BadLimit")
 number_and_name fault.NoGrouping = (codes "53", codes "NoGrouping")
+number_and_name fault.BrokenOff = (codes "68", codes "BrokenOff")
 
 -- the reply to an edit: `ok`, or `no` with the number and name of the fault
 abbrev pub edit_text : Option EditFault → List ℕ

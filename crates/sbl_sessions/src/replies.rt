@@ -53,6 +53,7 @@ pub fn edit_text(answer: Result<(), EditFault>) -> &'static str
         Err(EditFault::MeterFull) => "no 50 MeterFull\n",
         Err(EditFault::BadLimit) => "no 51 BadLimit\n",
         Err(EditFault::NoGrouping) => "no 53 NoGrouping\n",
+        Err(EditFault::BrokenOff) => "no 68 BrokenOff\n",
     }
 }
 

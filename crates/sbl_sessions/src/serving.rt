@@ -2,9 +2,10 @@
 ghost use Rattle.std.specs.Prelude.{◌≡◌, ◌≤◌, None, Some, Err, IfOk, IfErr, OnOk};
 ghost use Rattle.std.specs.Io.KnownBytes.{IsAtEnd};
 ghost use Rattle.sbl_bench.specs.KeptRuns.{contents_of};
-ghost use Rattle.sbl_sessions.specs.CommandViews.{IsAnswer};
+ghost use Rattle.sbl_sessions.specs.CommandViews.{IsAnswer, IsAnswerOrBreak};
 ghost use Rattle.sbl_sessions.specs.inside.RequestViews.{BreaksBlock, IsAnswered};
-ghost use Rattle.sbl_sessions.specs.Commands.{line_command};
+ghost use Rattle.sbl_bench.specs.Edits.{Limit};
+ghost use Rattle.sbl_sessions.specs.Commands.{Makes, line_command};
 ghost use Rattle.sbl_io.specs.Devices.{WritesInTime};
 ghost use Rattle.sbl_io.specs.Faults.{left_by};
 ghost use Rattle.sbl_io.specs.declared.faults.LineFault.{LineFault};
@@ -18,7 +19,7 @@ use crate::reports::{
 use crate::session_commands::{Command, asks_block, command_of, keep_line};
 use crate::session_edits::{add_word, edit_script, remove_word};
 use crate::watching::{NoWatch, RefusedEdit, Watch};
-use sbl_bench::{Bench, EditFault};
+use sbl_bench::{Bench, BreakOff, EditFault};
 use sbl_io::{Lines, ServeFault, Sink, Source};
 use sbl_reports::read_block;
 use std::alloc::Global;
@@ -46,6 +47,28 @@ pub fn answer_line(alloc: Global, bench: &mut Bench, line: &[u8]) -> Reply
         Command::Trace(word) => trace_reply(alloc, bench, word),
         Command::Runs => report(runs_text(alloc, bench)),
         Command::Bad => Reply::Fixed(BAD_COMMAND),
+    }
+}
+
+/// Sets the limit, and returns the reply; `no 68 BrokenOff` if `break_off` says so before a run.
+fn limit_or_break<B: BreakOff>(bench: &mut Bench, number: u64, break_off: &mut B) -> Reply
+    ensures { IsAnswerOrBreak (B.said break_off.old) (B.said break_off.new) (contents_of bench.old) (Makes (Limit number)) result (contents_of bench.new) }
+{
+    Reply::Fixed(edit_text(bench.set_limit_or_break(number, break_off)))
+}
+
+/// Does what `answer_line` does. A limit may be broken off: if `break_off` says so before a run, the reply is `no 68 BrokenOff`.
+pub fn answer_line_or_break<B: BreakOff>(
+    alloc: Global,
+    bench: &mut Bench,
+    line: &[u8],
+    break_off: &mut B,
+) -> Reply
+    ensures { IsAnswerOrBreak (B.said break_off.old) (B.said break_off.new) (contents_of bench.old) (line_command line.now) result (contents_of bench.new) }
+{
+    match command_of(line) {
+        Command::Limit(number) => limit_or_break(bench, number, break_off),
+        _ => answer_line(alloc, bench, line),
     }
 }
 

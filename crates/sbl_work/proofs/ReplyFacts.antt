@@ -13,8 +13,8 @@ use Rattle.sbl_bench.specs.declared.fault.EditFault.TheVariants as fault
 use Rattle.sbl_script.specs.Edits.{ScriptEdit}
 use Rattle.sbl_sessions.specs.Answers.{BlockRefused, Enough, edit_text, with_line_feed}
 use Rattle.sbl_reports.specs.Block.{made_text, max_script}
-use Rattle.sbl_sessions.specs.CommandViews.{IsReply}
-use Rattle.sbl_sessions.specs.Commands.{target_of, text_of_block}
+use Rattle.sbl_sessions.specs.CommandViews.{IsAnswerOrBreak, IsReply}
+use Rattle.sbl_sessions.specs.Commands.{Command, target_of, text_of_block}
 use Rattle.sbl_sessions.specs.EditFaults.{fault_in}
 use Rattle.sbl_sessions.specs.declared.replies.Reply.{Reply}
 use Rattle.sbl_text.specs.declared.fault.ScriptFault.{ScriptFault}
@@ -24,7 +24,7 @@ use Rattle.sbl_work.specs.Commands.{WorkCommand, alone_command, block_command, f
 use Rattle.sbl_history.specs.Desks.{State}
 use Rattle.sbl_history.specs.Refused.{RefusedText, LongText, PartText, WholeText}
 use Rattle.sbl_work.specs.FaultReplies.{kept_after, refused_part, refused_whole}
-use Rattle.sbl_history.specs.Editing.{Replaces}
+use Rattle.sbl_history.specs.Editing.{IsLimitNoted, Replaces}
 use Rattle.sbl_history.specs.History.{OfScript}
 use Rattle.sbl_work.specs.Replies.{IsWorkReply, ReplacesKept, TellsReport, not_text_text, rows_or_fault}
 use Rattle.sbl_work.specs.ReplyViews.{IsFamiliesAnswer, IsFileAnswer, IsKeptPart, IsPartResult, IsTextResult, IsWorkAnswer, NamesText}
@@ -35,6 +35,12 @@ use Rattle.sbl_history.proofs.Refusing.{nothing_tried}
 -- the reply to one command is that to another name of it
 pub same_command : (s t : Contents) (d e : State) (a b : WorkCommand) (r : Reply) → a ≡ b → IsWorkAnswer s d a r t e → IsWorkAnswer s d b r t e
 same_command s t d e a b r is answer = subst (λ (x : WorkCommand). IsWorkAnswer s d x r t e) is answer
+
+-- a command of a session, which may be broken off
+pub session_answer : (s t : Contents) (d e : State) (k : Command) (r : Reply) (said said_now : Bool) → IsAnswerOrBreak said said_now s k r t → IsLimitNoted s t d e
+    → IsWorkAnswer s d (command.Session k) r t e
+session_answer s t d e k r said said_now (inl a) noted = (a.1.1, a.1.2, (inl (a.1.0, a.1.3), noted))
+session_answer s t d e k r said said_now (inr b) noted = (b.1.0, b.1.1, (inr b.1.2, noted))
 
 -- a report, or memory for it is refused
 pub reply_is_told : (s : Contents) (d : State) (report : List ℕ) (r : Reply) → IsReply r report ⊎ IsReply r (edit_text (Some fault.OutOfMemory)) → (text : List ℕ) × IsReply r text × TellsReport report s d text s d

@@ -3,6 +3,7 @@ use Rattle.std.specs.Prelude.{◌≡◌, ◌⊎◌, ℕ, Bool, true, false, ◌=
 use Rattle.std.specs.Prelude.{Option, Some, None, Result, Ok, Err}
 use Rattle.std.specs.Option.{unwrap_or}
 use Rattle.std.specs.Str.{chars, is_utf8}
+use Rattle.sbl_bench.specs.BreakingOff.{EditsOrBreaks}
 use Rattle.sbl_bench.specs.Contents.{Contents, rows_now}
 use Rattle.sbl_bench.specs.Edits as bench
 use Rattle.sbl_bench.specs.Edits.{Edits, Whole}
@@ -14,7 +15,7 @@ use Rattle.sbl_text.specs.declared.fault.ScriptFault.TheVariants as script
 use Rattle.sbl_reports.specs.Block.{max_script}
 use Rattle.sbl_script.specs.Edits.{ScriptEdit}
 use Rattle.sbl_sessions.specs.Answers.{edit_text, with_line_feed}
-use Rattle.sbl_sessions.specs.CommandViews.{IsTextAnswer}
+use Rattle.sbl_sessions.specs.CommandViews.{IsTextAnswer, IsTextBreak}
 use Rattle.sbl_sessions.specs.EditFaults.{fault_in}
 use Rattle.sbl_explain.specs.Unused as unused
 use Rattle.sbl_explain.specs.Counts.{counts_text}
@@ -152,10 +153,11 @@ abbrev pub IsMarkReply : Option (List ℕ) → List ℕ → Contents → State �
 IsMarkReply None bytes s d text t e = SetsMark (rows_with s.words (stems_in bytes)) s d text t e
 IsMarkReply (Some refusal) bytes s d text t e = TellsReport refusal s d text t e
 
--- The words in these bytes replace the vocabulary; or a line is no word, the bench refuses the words, or an allocation fails.
+-- The words in these bytes replace the vocabulary; or a line is no word, the bench refuses the words, that is broken off, or an
+-- allocation fails.
 abbrev pub RereadsWords : Result (Unit {0}) LoadFault → List ℕ → Contents → Contents → Type 0
 RereadsWords (Ok u) bytes s t = (first_line_fault (file_lines bytes) ≡ None) × Edits (Ok u) s (bench.Words (file_words bytes)) t
-RereadsWords (Err (load.Open f)) bytes s t = (first_line_fault (file_lines bytes) ≡ None) × Edits (Err f) s (bench.Words (file_words bytes)) t
+RereadsWords (Err (load.Open f)) bytes s t = (first_line_fault (file_lines bytes) ≡ None) × EditsOrBreaks (Err f) s (bench.Words (file_words bytes)) t
 RereadsWords (Err (load.Input serve.OutOfMemory)) bytes s t = t ≡ s
 RereadsWords (Err (load.Input f)) bytes s t = (first_line_fault (file_lines bytes) ≡ Some f) × (t ≡ s)
 RereadsWords (Err (load.Script f)) bytes s t = ⊥
@@ -237,10 +239,10 @@ IsFileTokensReply bytes s d text t e = TellsTokens (nat_lt max_script (length by
 abbrev pub hello_text : List ℕ
 hello_text = with_line_feed (codes "voltizug,0.2.0,rows,2")
 
--- The reply to a command. A file that is to be written may need memory for its text.
+-- The reply to a command. A file that is to be written may need memory for its text. An edit that runs words may be broken off.
 abbrev pub IsWorkReply : Contents → State → WorkCommand → List ℕ → Contents → State → Type 0
 IsWorkReply s d Nothing text t e = TellsAlone [] s d text t e
-IsWorkReply s d (Session command) text t e = IsTextAnswer s command text t × IsLimitNoted s t d e
+IsWorkReply s d (Session command) text t e = (IsTextAnswer s command text t ⊎ IsTextBreak s command text t) × IsLimitNoted s t d e
 IsWorkReply s d (EditPart what block) text t e = IsPartReply what block s d text t e ⊎ TellsMemory s d text t e
 IsWorkReply s d (NoPart what bytes f) text t e = IsNoPartReply what bytes f s d text t e ⊎ TellsMemory s d text t e
 IsWorkReply s d (EditWhole bytes) text t e = IsWholeReply bytes s d text t e

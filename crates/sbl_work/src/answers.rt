@@ -24,60 +24,62 @@ use crate::stem_files::{approve_reply, mark_stems};
 use crate::text_replies::{file_tokens_reply, hello_reply, places_reply, text_reply, tokens_reply};
 use crate::whys::{integers_reply, why_reply};
 use crate::word_files::words_reply;
-use sbl_bench::{Bench, EditFault};
+use sbl_bench::{Bench, BreakOff, EditFault};
 use sbl_changes::changes_text;
 use sbl_explain::{KeptTakes, unused_text};
 use sbl_history::Desk;
 use sbl_io::first_line;
 use sbl_reports::{largest_text, stats_text};
-use sbl_sessions::{Reply, report};
+use sbl_sessions::{Reply, answer_line_or_break, report};
 use sbl_source_map::definition_text;
 use std::alloc::{AllocError, Global};
 
 /// Replaces the whole script by the bytes of a file. Keeps them if they have a fault.
-pub(crate) fn replace_by_bytes(
+pub(crate) fn replace_by_bytes<B: BreakOff>(
     alloc: Global,
     desk: &mut Desk,
     bench: &mut Bench,
     bytes: &[u8],
+    break_off: &mut B,
 ) -> Result<(), EditFault>
     ensures { ReplacesKept result bytes.now (contents_of bench.old) (state_of desk.old) (contents_of bench.new) (state_of desk.new) }
 {
     let Ok(refused) = refused_whole(alloc, bytes) else {
         return Err(EditFault::OutOfMemory);
     };
-    let answer = desk.replace(bench, bytes);
+    let answer = desk.replace(bench, bytes, break_off);
     note_whole(desk, answer, refused)
 }
 
 /// Returns the reply to `reload` and to `replace` with a file, for its bytes; none if it cannot be read.
-pub(crate) fn reload(
+pub(crate) fn reload<B: BreakOff>(
     alloc: Global,
     desk: &mut Desk,
     bench: &mut Bench,
     file: Option<&[u8]>,
+    break_off: &mut B,
 ) -> Reply
     ensures { IsWorkAnswer (contents_of bench.old) (state_of desk.old) (spec.with_file spec.EditWhole (view_file file.entry)) result (contents_of bench.new) (state_of desk.new) }
 {
     match file {
-        Some(bytes) => edit_reply(replace_by_bytes(alloc, desk, bench, bytes)),
+        Some(bytes) => edit_reply(replace_by_bytes(alloc, desk, bench, bytes, break_off)),
         None => Reply::Fixed(NO_FILE),
     }
 }
 
 /// Returns the reply to `undo`.
-fn undo(desk: &mut Desk, bench: &mut Bench) -> Reply
+fn undo<B: BreakOff>(desk: &mut Desk, bench: &mut Bench, break_off: &mut B) -> Reply
     ensures { IsWorkAnswer (contents_of bench.old) (state_of desk.old) spec.Undo result (contents_of bench.new) (state_of desk.new) }
 {
-    let answer = desk.undo(bench);
+    let answer = desk.undo(bench, break_off);
     undo_reply(note_turn(desk, answer))
 }
 
 /// Returns the reply to `redo`.
-fn redo(desk: &mut Desk, bench: &mut Bench) -> Reply
+fn redo<B: BreakOff>(desk: &mut Desk, bench: &mut Bench, break_off: &mut B) -> Reply
     ensures { IsWorkAnswer (contents_of bench.old) (state_of desk.old) spec.Redo result (contents_of bench.new) (state_of desk.new) }
 {
-    let answer = desk.redo(bench);
+    let answer = desk.redo(bench, break_off);
     redo_reply(note_turn(desk, answer))
 }
 
@@ -226,11 +228,17 @@ fn echo(alloc: Global, bench: &Bench, text: &[u8]) -> Reply
 
 /// Makes the edit or the report of a session that a line without a block asks for, and returns the reply. If the edit changed the
 /// limit, the desk remembers the limit before.
-fn session(alloc: Global, desk: &mut Desk, bench: &mut Bench, line: &[u8]) -> Reply
+fn session<B: BreakOff>(
+    alloc: Global,
+    desk: &mut Desk,
+    bench: &mut Bench,
+    line: &[u8],
+    break_off: &mut B,
+) -> Reply
     ensures { IsWorkAnswer (contents_of bench.old) (state_of desk.old) (spec.Session (line_command line.now)) result (contents_of bench.new) (state_of desk.new) }
 {
     let before = bench.limit();
-    let reply = sbl_sessions::answer_line(alloc, bench, line);
+    let reply = answer_line_or_break(alloc, bench, line, break_off);
     desk.note_limit(bench, before);
     reply
 }
@@ -241,27 +249,29 @@ fn session(alloc: Global, desk: &mut Desk, bench: &mut Bench, line: &[u8]) -> Re
 /// `replace`, `families`, `mark`, `tokens` or `faults` names. It is `None` if the file could not be read. For `save` and `approve` it has any bytes if the file was written, and for `append` the lines
 /// that were put at the file's end; it is `None` if the file was not written. Other commands do not look at it.
 ///
-/// If an allocation fails, the reply is `no 49 OutOfMemory`.
-pub(crate) fn answer_line(
+/// If an allocation fails, the reply is `no 49 OutOfMemory`. If an edit is broken off, since `break_off` says so before one of its
+/// runs, it is `no 68 BrokenOff`.
+pub(crate) fn answer_line<B: BreakOff>(
     alloc: Global,
     desk: &mut Desk,
     bench: &mut Bench,
     kept: &mut KeptTakes,
     line: &[u8],
     file: Option<&[u8]>,
+    break_off: &mut B,
 ) -> Reply
     ensures { IsWorkAnswer (contents_of bench.old) (state_of desk.old) (spec.alone_command (view_file file.entry) line.now) result (contents_of bench.new) (state_of desk.new) }
 {
     match request_of(line) {
         Request::Comment => Reply::Fixed(""),
-        Request::Reload => reload(alloc, desk, bench, file),
-        Request::Undo => undo(desk, bench),
-        Request::Redo => redo(desk, bench),
+        Request::Reload => reload(alloc, desk, bench, file, break_off),
+        Request::Undo => undo(desk, bench, break_off),
+        Request::Redo => redo(desk, bench, break_off),
         Request::History => history(desk, bench),
         Request::Mark => mark(desk, bench),
         Request::MarkStems(_) => mark_stems(alloc, desk, bench, file),
         Request::Approve(_) => approve_reply(bench, file.is_some()),
-        Request::Words => words_reply(alloc, bench, file),
+        Request::Words => words_reply(alloc, bench, file, break_off),
         Request::Changes => changes(alloc, desk, bench),
         Request::FirstChanges(argument) => first_changes_reply(alloc, desk, bench, argument),
         Request::Figures => figures_reply(alloc, desk, bench),
@@ -269,7 +279,7 @@ pub(crate) fn answer_line(
         Request::Unused => unused_reply(alloc, bench, kept),
         Request::Largest(argument) => largest(alloc, bench, argument),
         Request::Families(_) => families(alloc, bench, file),
-        Request::Replace(_) => reload(alloc, desk, bench, file),
+        Request::Replace(_) => reload(alloc, desk, bench, file, break_off),
         Request::Why(word) => why(alloc, bench, word),
         Request::Integers(word) => integers(alloc, bench, word),
         Request::Uses(text) => uses_reply(alloc, bench, kept, text),
@@ -288,6 +298,6 @@ pub(crate) fn answer_line(
         Request::Faults => faults_reply(alloc, desk, bench),
         Request::FaultsOf(_) => file_faults_reply(alloc, bench, file),
         Request::Hello => hello_reply(),
-        Request::Session => session(alloc, desk, bench, line),
+        Request::Session => session(alloc, desk, bench, line, break_off),
     }
 }

@@ -26,6 +26,8 @@ pub struct Paths {
     pub external: String,
     /// The file of the text that work begins with, if it is not that of the script.
     pub from: Option<String>,
+    /// The file whose existence breaks an edit off, if there is one.
+    pub stop: Option<String>,
 }
 
 /// The bytes that work begins with.

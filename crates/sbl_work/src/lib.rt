@@ -15,6 +15,7 @@ mod requests;
 mod script_files;
 mod serving;
 mod stem_files;
+mod stopping;
 mod text_replies;
 mod whys;
 mod word_files;

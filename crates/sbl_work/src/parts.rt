@@ -15,7 +15,7 @@ use crate::observing::{RefusedSource, refused_block};
 use crate::refusals::{note_part, note_whole};
 use crate::replies::{NOT_TEXT, edit_reply};
 use crate::requests::BlockRequest;
-use sbl_bench::{Bench, EditFault};
+use sbl_bench::{Bench, BreakOff, EditFault};
 use sbl_history::{Desk, HeldPart, Refused};
 use sbl_reports::{BlockFault, BlockText, families_text};
 use sbl_script::{Part, ScriptFault};
@@ -35,18 +35,19 @@ fn text_of(block: BlockText) -> Result<Vec<u8>, EditFault>
 }
 
 /// Replaces the whole script by the text of a block. Keeps the text if it has a fault; then `refused` has it, too.
-fn replace_by(
+fn replace_by<B: BreakOff>(
     alloc: Global,
     refused: &mut Option<RefusedSource>,
     desk: &mut Desk,
     bench: &mut Bench,
     block: BlockText,
+    break_off: &mut B,
 ) -> Result<(), EditFault>
     ensures { (lines : List (List ℕ)) → HoldsText block lines → ReplacesKept result (made_text lines) (contents_of bench.old) (state_of desk.old) (contents_of bench.new) (state_of desk.new) }
 {
     match text_of(block) {
         Ok(text) => {
-            let answer = desk.replace(bench, &text);
+            let answer = desk.replace(bench, &text, break_off);
             *refused = refused_block(alloc, "replace", &text, answer);
             note_whole(desk, answer, Refused::Whole(text))
         }
@@ -55,12 +56,13 @@ fn replace_by(
 }
 
 /// Replaces a part of the script by a text that may begin as its definition does.
-fn replace_part_by(
+fn replace_part_by<B: BreakOff>(
     alloc: Global,
     desk: &mut Desk,
     bench: &mut Bench,
     part: Part<'_>,
     text: &[u8],
+    break_off: &mut B,
 ) -> Result<(), EditFault>
     ensures { IsPartResult result (view_part part.entry) text.now (contents_of bench.old) (state_of desk.old) (contents_of bench.new) (state_of desk.new) }
 {
@@ -68,13 +70,13 @@ fn replace_part_by(
         return Err(EditFault::Script(ScriptFault::NotUtf8));
     };
     match without_head(alloc, part, text) {
-        Ok(rest) => desk.replace_part(bench, part, rest),
+        Ok(rest) => desk.replace_part(bench, part, rest, break_off),
         Err(_) => Err(EditFault::OutOfMemory),
     }
 }
 
 /// Replaces a part of the script by what was typed after a line. Keeps it if it has a fault; `refused` has it if it is refused.
-fn replace_part_kept(
+fn replace_part_kept<B: BreakOff>(
     alloc: Global,
     refused: &mut Option<RefusedSource>,
     desk: &mut Desk,
@@ -82,17 +84,18 @@ fn replace_part_kept(
     line: &str,
     part: Part<'_>,
     typed: Vec<u8>,
+    break_off: &mut B,
 ) -> Result<(), EditFault>
     ensures { IsKeptPart result (view_part part.entry) typed.items (contents_of bench.old) (state_of desk.old) (contents_of bench.new) (state_of desk.new) }
 {
     let held = HeldPart::copy_of(alloc, part)?;
-    let answer = replace_part_by(alloc, desk, bench, part, &typed);
+    let answer = replace_part_by(alloc, desk, bench, part, &typed, break_off);
     *refused = refused_block(alloc, line, &typed, answer);
     note_part(desk, answer, held, typed)
 }
 
 /// Makes the edit of a part by the block after a line, and returns the reply. `refused` has the text of the block if it is refused.
-fn edit_part(
+fn edit_part<B: BreakOff>(
     alloc: Global,
     refused: &mut Option<RefusedSource>,
     desk: &mut Desk,
@@ -100,60 +103,66 @@ fn edit_part(
     line: &str,
     part: Part<'_>,
     block: BlockText,
+    break_off: &mut B,
 ) -> Reply
     ensures { (lines : List (List ℕ)) → HoldsText block lines → Answers bench.old desk.old (spec.part_command (Some (view_part part.entry)) (made_text lines) (text_of_block lines)) result bench.new desk.new }
 {
     match text_of(block) {
-        Ok(text) => edit_reply(replace_part_kept(alloc, refused, desk, bench, line, part, text)),
+        Ok(text) => edit_reply(replace_part_kept(
+            alloc, refused, desk, bench, line, part, text, break_off,
+        )),
         Err(fault) => edit_reply(note_whole(desk, Err(fault), Refused::TooLong)),
     }
 }
 
-fn edit_named(
+fn edit_named<B: BreakOff>(
     alloc: Global,
     refused: &mut Option<RefusedSource>,
     desk: &mut Desk,
     bench: &mut Bench,
     line: &str,
     block: BlockText,
+    break_off: &mut B,
 ) -> Reply
     ensures { (lines : List (List ℕ)) → HoldsText block lines → Answers bench.old desk.old (part_edit line.now lines) result bench.new desk.new }
 {
     match part_of(line) {
-        Some(part) => edit_part(alloc, refused, desk, bench, line, part, block),
+        Some(part) => edit_part(alloc, refused, desk, bench, line, part, block, break_off),
         None => Reply::Fixed(BAD_COMMAND),
     }
 }
 
 /// Makes the edit that a line and its block ask for, and returns the reply. A bad line is refused, whatever its block is.
-fn edit_kept(
+fn edit_kept<B: BreakOff>(
     alloc: Global,
     refused: &mut Option<RefusedSource>,
     desk: &mut Desk,
     bench: &mut Bench,
     kept: Result<Option<String>, AllocError>,
     block: BlockText,
+    break_off: &mut B,
 ) -> Reply
     ensures { (line : List ℕ) (lines : List (List ℕ)) → KeepsLine kept line → HoldsText block lines → Answers bench.old desk.old (part_edit line lines) result bench.new desk.new }
 {
     match kept {
-        Ok(Some(line)) => edit_named(alloc, refused, desk, bench, line.as_str(), block),
+        Ok(Some(line)) => edit_named(alloc, refused, desk, bench, line.as_str(), block, break_off),
         Ok(None) => Reply::Fixed(BAD_COMMAND),
         Err(_) => edit_reply(Err(EditFault::OutOfMemory)),
     }
 }
 
 /// Makes the edit of `replace`, and returns the reply.
-fn replace_reply(
+fn replace_reply<B: BreakOff>(
     alloc: Global,
     refused: &mut Option<RefusedSource>,
     desk: &mut Desk,
     bench: &mut Bench,
     block: BlockText,
+    break_off: &mut B,
 ) -> Reply
     ensures { (lines : List (List ℕ)) → HoldsText block lines → Answers bench.old desk.old (spec.EditWhole (made_text lines)) result bench.new desk.new }
 {
-    edit_reply(replace_by(alloc, refused, desk, bench, block))
+    edit_reply(replace_by(alloc, refused, desk, bench, block, break_off))
 }
 
 /// Returns the reply to `families`, for the text of the families.
@@ -185,19 +194,20 @@ fn families_of(alloc: Global, bench: &Bench, block: BlockText) -> Reply
 
 /// Makes the edit or the report that a line asks for with its block, and returns the reply. `request` is what `block_request`
 /// returns for the line. `refused` has the text of the block if it is refused.
-pub(crate) fn answer_block(
+pub(crate) fn answer_block<B: BreakOff>(
     alloc: Global,
     refused: &mut Option<RefusedSource>,
     desk: &mut Desk,
     bench: &mut Bench,
     request: BlockRequest,
     block: BlockText,
+    break_off: &mut B,
 ) -> Reply
     ensures { (line : List ℕ) (lines : List (List ℕ)) → FindsBlock request line → HoldsText block lines → Answers bench.old desk.old (spec.block_command line lines) result bench.new desk.new }
 {
     match request {
-        BlockRequest::Part(kept) => edit_kept(alloc, refused, desk, bench, kept, block),
-        BlockRequest::Whole => replace_reply(alloc, refused, desk, bench, block),
+        BlockRequest::Part(kept) => edit_kept(alloc, refused, desk, bench, kept, block, break_off),
+        BlockRequest::Whole => replace_reply(alloc, refused, desk, bench, block, break_off),
         BlockRequest::Families => families_of(alloc, bench, block),
     }
 }

@@ -23,6 +23,7 @@ use crate::replies::edit_reply;
 use crate::requests::{Request, block_request, is_quit, request_of};
 use crate::script_files::replace_by_file;
 use crate::stem_files::{approve_by_file, mark_by_file};
+use crate::stopping::StopFile;
 use crate::text_replies::tokens_by_file;
 use crate::word_files::words_by_file;
 use sbl_bench::{Bench, EditFault};
@@ -77,6 +78,7 @@ fn answer_alone<F: Files + AllocGlobal>(
 ) -> Reply
     ensures { IsFileAnswer (contents_of bench.old) (state_of desk.old) line.now result (contents_of bench.new) (state_of desk.new) }
 {
+    let mut stop = StopFile::new(folder.files, folder.paths);
     match request_of(line) {
         Request::Reload => replace_by_file(
             folder.files,
@@ -86,6 +88,7 @@ fn answer_alone<F: Files + AllocGlobal>(
             desk,
             bench,
             folder.paths.script.as_str(),
+            &mut stop,
         ),
         Request::Families(path) => match read_file(folder.files, path) {
             Ok(bytes) => answer_line(
@@ -95,6 +98,7 @@ fn answer_alone<F: Files + AllocGlobal>(
                 &mut folder.kept,
                 line,
                 Some(bytes.as_slice()),
+                &mut stop,
             ),
             Err(ReadFault::Unreadable) => answer_line(
                 alloc,
@@ -103,6 +107,7 @@ fn answer_alone<F: Files + AllocGlobal>(
                 &mut folder.kept,
                 line,
                 None,
+                &mut stop,
             ),
             Err(ReadFault::OutOfMemory) => edit_reply(Err(EditFault::OutOfMemory)),
         },
@@ -114,9 +119,10 @@ fn answer_alone<F: Files + AllocGlobal>(
                 &mut folder.kept,
                 line,
                 Some(b"".as_slice()),
+                &mut stop,
             ),
             Err(SaveFault::OutOfMemory) => edit_reply(Err(EditFault::OutOfMemory)),
-            Err(_) => answer_line(alloc, desk, bench, &mut folder.kept, line, None),
+            Err(_) => answer_line(alloc, desk, bench, &mut folder.kept, line, None, &mut stop),
         },
         Request::Append(path) => match append(
             folder.files,
@@ -132,9 +138,10 @@ fn answer_alone<F: Files + AllocGlobal>(
                 &mut folder.kept,
                 line,
                 Some(lines.as_slice()),
+                &mut stop,
             ),
             Err(SaveFault::OutOfMemory) => edit_reply(Err(EditFault::OutOfMemory)),
-            Err(_) => answer_line(alloc, desk, bench, &mut folder.kept, line, None),
+            Err(_) => answer_line(alloc, desk, bench, &mut folder.kept, line, None, &mut stop),
         },
         Request::Replace(path) => replace_by_file(
             folder.files,
@@ -144,6 +151,7 @@ fn answer_alone<F: Files + AllocGlobal>(
             desk,
             bench,
             path,
+            &mut stop,
         ),
         Request::MarkStems(path) => mark_by_file(folder.files, alloc, desk, bench, path),
         Request::Approve(path) => approve_by_file(folder.files, folder.paths, bench, path),
@@ -153,10 +161,11 @@ fn answer_alone<F: Files + AllocGlobal>(
             &mut folder.added,
             alloc,
             bench,
+            &mut stop,
         ),
         Request::TokensOf(path) => tokens_by_file(folder.files, alloc, path),
         Request::FaultsOf(path) => faults_by_file(folder.files, alloc, bench, path),
-        _ => answer_line(alloc, desk, bench, &mut folder.kept, line, None),
+        _ => answer_line(alloc, desk, bench, &mut folder.kept, line, None, &mut stop),
     }
 }
 
@@ -196,6 +205,7 @@ fn answer<F: Files + AllocGlobal, R: Source + Drop>(
         None => Ok(answer_noted(folder, desk, bench, lines.alloc(), lines.line())),
         Some(request) => {
             let block = read_block(lines)?;
+            let mut stop = StopFile::new(folder.files, folder.paths);
             Ok(answer_block(
                 lines.alloc(),
                 &mut folder.refused,
@@ -203,6 +213,7 @@ fn answer<F: Files + AllocGlobal, R: Source + Drop>(
                 bench,
                 request,
                 block,
+                &mut stop,
             ))
         }
     }

@@ -10,7 +10,7 @@ ghost use Rattle.sbl_work.specs.ReplyViews.{IsWorkAnswer, view_file};
 use crate::appending::Added;
 use crate::files::Paths;
 use crate::replies::{NO_FILE, NOT_TEXT, edit_reply};
-use sbl_bench::{Bench, EditFault};
+use sbl_bench::{Bench, BreakOff, EditFault};
 use sbl_input::{LoadFault, words_in};
 use sbl_io::ServeFault;
 use sbl_saving::{ReadFault, read_file};
@@ -19,11 +19,16 @@ use std::alloc::Global;
 use std::rt::Files;
 
 /// Replaces the vocabulary by the words in the lines of bytes.
-fn reread_words(alloc: Global, bench: &mut Bench, bytes: &[u8]) -> Result<(), LoadFault>
+fn reread_words<B: BreakOff>(
+    alloc: Global,
+    bench: &mut Bench,
+    bytes: &[u8],
+    break_off: &mut B,
+) -> Result<(), LoadFault>
     ensures { RereadsWords result bytes.now (contents_of bench.old) (contents_of bench.new) }
 {
     let words = words_in(alloc, bytes)?;
-    match bench.replace_words(&words) {
+    match bench.replace_words_or_break(&words, break_off) {
         Ok(()) => Ok(()),
         Err(fault) => Err(LoadFault::Open(fault)),
     }
@@ -43,37 +48,43 @@ fn reread_reply(answer: Result<(), LoadFault>) -> Reply
 }
 
 /// Returns the reply to `words`, for the bytes of the file of words; none if it cannot be read.
-pub(crate) fn words_reply(alloc: Global, bench: &mut Bench, file: Option<&[u8]>) -> Reply
+pub(crate) fn words_reply<B: BreakOff>(
+    alloc: Global,
+    bench: &mut Bench,
+    file: Option<&[u8]>,
+    break_off: &mut B,
+) -> Reply
     ensures { (d : State) → IsWorkAnswer (contents_of bench.old) d (spec.with_file spec.Words (view_file file.entry)) result (contents_of bench.new) d }
 {
     match file {
-        Some(bytes) => reread_reply(reread_words(alloc, bench, bytes)),
+        Some(bytes) => reread_reply(reread_words(alloc, bench, bytes, break_off)),
         None => Reply::Fixed(NO_FILE),
     }
 }
 
 /// Reads the file of words again, and returns the reply to `words`. Notes that no word is added then.
-pub(crate) fn words_by_file<F: Files + AllocGlobal>(
+pub(crate) fn words_by_file<F: Files + AllocGlobal, B: BreakOff>(
     files: &F,
     paths: &Paths,
     added: &mut Added,
     alloc: Global,
     bench: &mut Bench,
+    break_off: &mut B,
 ) -> Reply
     ensures { (d : State) → (file : Option (List ℕ)) × IsWorkAnswer (contents_of bench.old) d (spec.with_file spec.Words file) result (contents_of bench.new) d }
 {
     let Some(path) = &paths.words else {
-        return words_reply(alloc, bench, None);
+        return words_reply(alloc, bench, None, break_off);
     };
     match read_file(files, path.as_str()) {
         Ok(bytes) => {
-            let answer = reread_words(alloc, bench, &bytes);
+            let answer = reread_words(alloc, bench, &bytes, break_off);
             if answer.is_ok() {
                 added.note_read(bench.len());
             }
             reread_reply(answer)
         }
-        Err(ReadFault::Unreadable) => words_reply(alloc, bench, None),
+        Err(ReadFault::Unreadable) => words_reply(alloc, bench, None, break_off),
         Err(ReadFault::OutOfMemory) => edit_reply(Err(EditFault::OutOfMemory)),
     }
 }

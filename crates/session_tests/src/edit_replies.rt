@@ -2,8 +2,8 @@
 
 use sbl_bench::EditFault;
 use sbl_bench::EditFault::{
-    Absent, AmongCount, BadLimit, EmptyWord, Full, MeterFull, NoAmong, NoGrouping, NoRoutine,
-    OutOfMemory, Present, Script, WordTooLong,
+    Absent, AmongCount, BadLimit, BrokenOff, EmptyWord, Full, MeterFull, NoAmong, NoGrouping,
+    NoRoutine, OutOfMemory, Present, Script, WordTooLong,
 };
 use sbl_script::ScriptFault::{
     BadCharacter, BadCode, DeclaredTwice, DefinedTwice, EmptyAmong, NestedBackwards, NoExternal,
@@ -33,8 +33,8 @@ fn each_fault_of_an_edit_has_its_number_and_its_name(rt: HostRuntime) -> Result<
     let parts = [NoRoutine, NoAmong, AmongCount, NoGrouping];
     let want = "no 45 NoRoutine\nno 46 NoAmong\nno 47 AmongCount\nno 53 NoGrouping\n";
     assert_eq!(rt; replies_to(rt.alloc(), &parts)?.as_str(), want);
-    let others = [OutOfMemory, MeterFull, BadLimit];
-    let want = "no 49 OutOfMemory\nno 50 MeterFull\nno 51 BadLimit\n";
+    let others = [OutOfMemory, MeterFull, BadLimit, BrokenOff];
+    let want = "no 49 OutOfMemory\nno 50 MeterFull\nno 51 BadLimit\nno 68 BrokenOff\n";
     assert_eq!(rt; replies_to(rt.alloc(), &others)?.as_str(), want);
     assert_eq!(rt; BAD_COMMAND, "no 52 BadCommand\n");
     Ok(())

@@ -42,6 +42,7 @@ no_bench a b external state (Open edit.OutOfMemory) is = is
 no_bench a b external state (Open edit.MeterFull) is = is
 no_bench a b external state (Open edit.BadLimit) is = is
 no_bench a b external state (Open edit.NoGrouping) is = is
+no_bench a b external state (Open edit.BrokenOff) is = is
 no_bench a b external state (Input fault.Read) is = is
 no_bench a b external state (Input fault.Write) is = is
 no_bench a b external state (Input fault.LineTooLong) is = is

@@ -44,6 +44,7 @@ pub(crate) fn start_work(rt: &HostRuntime, wanted: Wanted) -> u8 {
         shows_places: _,
         face,
         from,
+        stop,
         form: _,
     } = options;
     let Some(script) = script else {
@@ -54,6 +55,7 @@ pub(crate) fn start_work(rt: &HostRuntime, wanted: Wanted) -> u8 {
         words,
         external,
         from,
+        stop,
     };
     let Ok(keys) = RandomState::new(rt) else {
         let _ = eprintln!(rt; "{NO_KEYS}");

@@ -1,8 +1,8 @@
 //! The words of a bench: refusals, and refused growths. tests/cases has the replies.
 
 use sbl_bench::EditFault::{
-    Absent, AmongCount, BadLimit, EmptyWord, Full, MeterFull, NoAmong, NoGrouping, NoRoutine,
-    OutOfMemory, Present, WordTooLong,
+    Absent, AmongCount, BadLimit, BrokenOff, EmptyWord, Full, MeterFull, NoAmong, NoGrouping,
+    NoRoutine, OutOfMemory, Present, WordTooLong,
 };
 use sbl_bench::{Bench, EditFault, Row, WordKeys};
 use sbl_machine::Outcome;
@@ -142,8 +142,8 @@ fn faults_are_printed_with_their_numbers(rt: HostRuntime) -> Result<(), Fail> {
     assert_eq!(rt; print_values(rt.alloc(), &edits)?.as_str(), want);
     let undeclared = EditFault::Script(ScriptFault::Undeclared { item: 2 });
     let no_external = EditFault::Script(ScriptFault::NoExternal);
-    let others = [undeclared, no_external, OutOfMemory, MeterFull];
-    let want = "48 Undeclared;48 NoExternal;49 OutOfMemory;50 MeterFull;";
+    let others = [undeclared, no_external, OutOfMemory, MeterFull, BrokenOff];
+    let want = "48 Undeclared;48 NoExternal;49 OutOfMemory;50 MeterFull;68 BrokenOff;";
     assert_eq!(rt; print_values(rt.alloc(), &others)?.as_str(), want);
     Ok(())
 }

@@ -53,7 +53,7 @@ fn make_edit(alloc: Global, bench: &mut Bench, edit: &str) -> Result<Result<(), 
 }
 
 /// The changes of the last edit as `WORD STEM;WORD STEM;`, before and after.
-fn changes_shown(alloc: Global, bench: &Bench) -> Result<String, Fail> {
+pub(crate) fn changes_shown(alloc: Global, bench: &Bench) -> Result<String, Fail> {
     let mut text = String::new(alloc);
     let changes = bench.changes()?;
     for change in &changes {

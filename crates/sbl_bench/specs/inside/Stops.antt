@@ -19,10 +19,18 @@ IsStop most fault.OutOfMemory count new_count = (n : ℕ) × (n ≤ most) × (ne
 IsStop most fault.MeterFull count new_count = (count ≡ max_runs) × (new_count ≡ count)
 IsStop most f count new_count = ⊥
 
--- too few counts are left for this many runs; or an allocation failed, before any run or, with enough counts, after some
+-- of at most this many runs some were made and counted when an allocation failed, or when it was broken off before one of them
+abbrev pub IsCut : ℕ → EditFault → ℕ → ℕ → Type 0
+IsCut most fault.OutOfMemory count new_count = (n : ℕ) × (n ≤ most) × (new_count ≡ count + n)
+IsCut most fault.BrokenOff count new_count = (n : ℕ) × (n < most) × (new_count ≡ count + n)
+IsCut most f count new_count = ⊥
+
+-- Too few counts are left for this many runs; or an allocation failed, before any run or, with enough counts, after some; or, with
+-- enough counts, it was broken off before one of the runs.
 abbrev pub IsStopOf : ℕ → EditFault → ℕ → ℕ → Type 0
 IsStopOf needed fault.OutOfMemory count new_count =
     (new_count ≡ count) ⊎ ((n : ℕ) × (n ≤ needed) × (needed ≤ max_runs - count) × (new_count ≡ count + n))
+IsStopOf needed fault.BrokenOff count new_count = (n : ℕ) × (n < needed) × (needed ≤ max_runs - count) × (new_count ≡ count + n)
 IsStopOf needed fault.MeterFull count new_count = (max_runs - count < needed) × (new_count ≡ count)
 IsStopOf needed f count new_count = ⊥
 

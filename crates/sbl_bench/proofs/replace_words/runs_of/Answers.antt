@@ -1,4 +1,5 @@
-use Rattle.std.proofs.Common.{◌≡◌, ◌<◌, ◌∙◌, ◌+◌, ◌-◌, ◌++◌, ◌∷◌, [], ℕ, List, Result, Ok, Err, OnErr, length, drop, get_or, arith, ap, refl, sym}
+use Rattle.std.proofs.Common.{◌≡◌, ◌<◌, ◌∙◌, ◌+◌, ◌-◌, ◌++◌, ◌∷◌, [], ℕ, List, Result, Ok, Err, OnErr, length, drop, get_or, arith, ap, inr, refl, sym}
+use Rattle.std.proofs.lemmas.Result.{err_from_is_err_and}
 use Rattle.sbl_rows.specs.Classes.{texts_of}
 use Rattle.sbl_rows.specs.KnownOutcomes.{Text}
 use Rattle.sbl_rows.specs.Setting.{under}
@@ -6,6 +7,7 @@ use Rattle.sbl_rows.proofs.Loops.{next, so_far}
 use Rattle.sbl_rows.proofs.SetFacts.{no_text}
 use Rattle.sbl_bench.specs.KeptRuns.{words_in}
 use Rattle.sbl_bench.specs.inside.WordLists.{new_words, runs_of_word}
+use Rattle.sbl_bench.proofs.Breaking.{cut_more, cut_stops, told_more}
 use Rattle.sbl_bench.proofs.Listing.{new_after, new_count_at, sound_at}
 use Rattle.sbl_bench.proofs.replace_words.runs_of.Goals as goal
 
@@ -14,25 +16,21 @@ runs_left : (before : List (List ℕ)) (words : List Text) (i : ℕ) → i < len
     → length (new_words before (texts_of (drop i words))) ≡ runs_of_word before (get_or words i no_text).now + length (new_words before (texts_of (drop (i + 1) words)))
 runs_left before words i below = new_count_at before (texts_of (drop i words)) (texts_of (drop (i + 1) words)) (get_or words i no_text).now (next (λ (t : Text). t.now) words i no_text (get_or words i no_text) below refl)
 
-on_err : {T E P : Type 0} (r : Result T E) → P → OnErr r P
-on_err (Ok v) p = tt
-on_err (Err e) p = p
-
 pub run_of-requires-clause-sound : goal.run_of-requires-clause-sound
-run_of-requires-clause-sound c = sound_at (λ (t : Text). t.now) c.args.words.now c.loop-word.word-index _ c.requires.sound c.loop-word-test.true
+run_of-requires-clause-sound g c = sound_at (λ (t : Text). t.now) c.args.words.now c.loop-word.word-index _ c.requires.sound c.loop-word-test.true
 
 pub run_of-requires-clause-room : goal.run_of-requires-clause-room
-run_of-requires-clause-room c =
+run_of-requires-clause-room g c =
     let left = runs_left (words_in c.args.before.now.entries) c.args.words.now c.loop-word.word-index c.loop-word-test.true in
     let so = c.loop-word.invariant.counted in
     let room = c.requires.room in
     omega arith
 
 pub put-requires : goal.put-requires
-put-requires c = new_after (λ (t : Text). t.now) c.args.words.now c.loop-word.word-index no_text (words_in c.loop-word.traces.entries) c.requires.distinct c.loop-word-test.true c.loop-word.invariant.words
+put-requires g c = new_after (λ (t : Text). t.now) c.args.words.now c.loop-word.word-index no_text (words_in c.loop-word.traces.entries) c.requires.distinct c.loop-word-test.true c.loop-word.invariant.words
 
 pub loop-word-preserved : goal.loop-word-preserved
-loop-word-preserved c =
+loop-word-preserved g c =
     let es = words_in c.args.before.now.entries in
     let i = c.loop-word.word-index in
     let below = c.loop-word-test.true in
@@ -43,21 +41,39 @@ loop-word-preserved c =
       fresh = λ s made old. c.in_ok-put.ensures.kept (under s c.args.limit) (c.loop-word.invariant.fresh s made old) (c.in_ok-last.ensures.fresh s made old);
       counted = (let so = c.loop-word.invariant.counted in omega arith);
       more = (let so = c.loop-word.invariant.more in omega arith);
+      untold = c.in_ok-last.ensures.untold ∙ c.loop-word.invariant.untold;
     }
 
-pub returns-in_err-last-clause-some : goal.returns-in_err-last-clause-some
-returns-in_err-last-clause-some c =
+pub returns-in_err-last-clause-stop : goal.returns-in_err-last-clause-stop
+returns-in_err-last-clause-stop g c =
+    let f = err_from_is_err_and c.from_residual-in_err-last.result c.from_residual-in_err-last.ensures.1 in
     let left = runs_left (words_in c.args.before.now.entries) c.args.words.now c.loop-word.word-index c.loop-word-test.true in
     let so = c.loop-word.invariant.counted in
     let more = c.loop-word.invariant.more in
-    let few = c.in_err-last.ensures.some.1 in
-    let is = c.in_err-last.ensures.some.2 in
-    on_err c.from_residual-in_err-last.result (c.run_of.new.meter - c.args.meter.now, omega arith, omega arith)
+    let es = words_in c.args.before.now.entries in
+    let w = get_or c.args.words.now c.loop-word.word-index no_text in
+    let e = c.in_err-last.field-0.0 in
+    let room = c.requires.room in
+    let needed = length (new_words es (texts_of c.args.words.now)) in
+    rw (f.1, f.2) (cut_stops e needed c.args.meter.now c.run_of.new.meter (omega arith)
+    (cut_more e (runs_of_word es w.now) needed c.args.meter.now c.loop-word.meter c.run_of.new.meter more (omega arith) c.in_err-last.ensures.cut))
 
-pub returns-in_err-put-clause-some : goal.returns-in_err-put-clause-some
-returns-in_err-put-clause-some c =
+pub returns-in_err-last-clause-told : goal.returns-in_err-last-clause-told
+returns-in_err-last-clause-told g c =
+    let f = err_from_is_err_and c.from_residual-in_err-last.result c.from_residual-in_err-last.ensures.1 in
+    rw (f.1, f.2) (told_more c.in_err-last.field-0.0 _ _ _ c.loop-word.invariant.untold c.in_err-last.ensures.told)
+
+pub returns-in_err-put-clause-stop : goal.returns-in_err-put-clause-stop
+returns-in_err-put-clause-stop g c =
+    let f = err_from_is_err_and c.from_residual-in_err-put.result c.from_residual-in_err-put.ensures.1 in
     let left = runs_left (words_in c.args.before.now.entries) c.args.words.now c.loop-word.word-index c.loop-word-test.true in
     let so = c.loop-word.invariant.counted in
     let more = c.loop-word.invariant.more in
     let is = c.in_ok-last.ensures.counted in
-    on_err c.from_residual-in_err-put.result (c.run_of.new.meter - c.args.meter.now, omega arith, omega arith)
+    let room = c.requires.room in
+    rw (f.1, f.2) (inr (c.run_of.new.meter - c.args.meter.now, omega arith, omega arith, omega arith))
+
+pub returns-in_err-put-clause-told : goal.returns-in_err-put-clause-told
+returns-in_err-put-clause-told g c =
+    let f = err_from_is_err_and c.from_residual-in_err-put.result c.from_residual-in_err-put.ensures.1 in
+    rw (f.1, f.2) (c.in_ok-last.ensures.untold ∙ c.loop-word.invariant.untold)

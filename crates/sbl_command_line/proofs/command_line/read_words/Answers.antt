@@ -110,6 +110,16 @@ returns-clause-from c =
     let is = program_is ∙ entered_is in
     c.in_ok-from.ensures ∙ value_is words c.in-Some.name.now f (codes "from") is
 
+pub returns-clause-stop : goal.returns-clause-stop
+returns-clause-stop c =
+    let words = map string_bytes c.args.words.now in
+    let entered = (c.in_ok-matches.ensures.matches (ap is_simple c.in_ok-make_program.ensures ∙ refl)).1 in
+    let program_is : subcommand_of program words ≡ subcommand_rows_of c.in_ok-matches.matches = sym (entered ∙ ap (λ (a : App). subcommand_of a words) c.in_ok-make_program.ensures) in
+    let f = found_of c.in-Some.options.now in
+    let entered_is : subcommand_rows_of c.in_ok-matches.matches ≡ Some (c.in-Some.name.now, rows_of f) = both _ _ _ _ _ (sym c.in-Some.ensures.name) (sym c.in-Some.ensures.rows) in
+    let is = program_is ∙ entered_is in
+    c.in_ok-stop.ensures ∙ value_is words c.in-Some.name.now f (codes "stop") is
+
 pub returns-clause-form : goal.returns-clause-form
 returns-clause-form c =
     let words = map string_bytes c.args.words.now in

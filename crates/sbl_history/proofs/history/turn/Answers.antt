@@ -6,7 +6,7 @@ use Rattle.sbl_history.specs.declared.steps.Step.{Step}
 use Rattle.sbl_history.proofs.history.turn.Goals as goal
 
 pub returns-in-Ok-clause-turns : goal.returns-in-Ok-clause-turns
-returns-in-Ok-clause-turns c =
+returns-in-Ok-clause-turns g c =
     let rest = c.pop.new.self.items in
     let edit = c.in-Some.edit in
     let others = c.args.to.now.items in (
@@ -19,7 +19,7 @@ returns-in-Ok-clause-turns c =
     )
 
 pub returns-in-Err-clause-turns : goal.returns-in-Err-clause-turns
-returns-in-Err-clause-turns c =
+returns-in-Err-clause-turns g c =
     let rest = c.pop.new.self.items in
     let was = c.in-Some.ensures.items in (
       map view_edit rest,

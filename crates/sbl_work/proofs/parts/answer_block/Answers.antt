@@ -10,13 +10,13 @@ use Rattle.sbl_work.proofs.ReplyFacts.{families_block, replace_block}
 use Rattle.sbl_work.proofs.parts.answer_block.Goals as goal
 
 pub returns-in-Families : goal.returns-in-Families
-returns-in-Families c = λ line lines finds holds.
+returns-in-Families g c = λ line lines finds holds.
     let it : FindsBlock blocks.Families line = subst (λ (r : BlockRequest). FindsBlock r line) c.in-Families.is finds in
     families_block (contents_of c.args.bench.now) (contents_of c.args.bench.now) (state_of c.args.desk.now) (state_of c.args.desk.now) line lines c.families_of.result
     (asks_block line) (is_replace line) it.0 it.1 (c.families_of.ensures (state_of c.args.desk.now) lines holds)
 
 pub returns-in-Whole : goal.returns-in-Whole
-returns-in-Whole c = λ line lines finds holds.
+returns-in-Whole g c = λ line lines finds holds.
     let it : FindsBlock blocks.Whole line = subst (λ (r : BlockRequest). FindsBlock r line) c.in-Whole.is finds in
     replace_block (contents_of c.args.bench.now) (contents_of c.replace_reply.new.bench) (state_of c.args.desk.now) (state_of c.replace_reply.new.desk) line lines c.replace_reply.result
     (asks_block line) (is_replace line) it.0 it.1 (c.replace_reply.ensures lines holds)

@@ -9,7 +9,7 @@ use Rattle.sbl_work.proofs.ReplyFacts.{part_bad, part_unkept}
 use Rattle.sbl_work.proofs.parts.edit_kept.Goals as goal
 
 pub returns-in-Ok-Some : goal.returns-in-Ok-Some
-returns-in-Ok-Some c = λ line lines keeps holds.
+returns-in-Ok-Some g c = λ line lines keeps holds.
     let s = contents_of c.args.bench.now in
     let t = contents_of c.edit_named.new.bench in
     let d = state_of c.args.desk.now in
@@ -19,10 +19,10 @@ returns-in-Ok-Some c = λ line lines keeps holds.
     subst (λ (x : List ℕ). IsWorkAnswer s d (part_edit x lines) c.edit_named.result t e) (given ∙ kept) (c.edit_named.ensures lines holds)
 
 pub returns-in-Ok-None : goal.returns-in-Ok-None
-returns-in-Ok-None c = λ line lines keeps holds.
+returns-in-Ok-None g c = λ line lines keeps holds.
     let none : target_of line ≡ None = kept_as c.args.kept (Ok None) line (search rules) keeps in
     search (rules, part_bad)
 
 pub returns-in-Err : goal.returns-in-Err
-returns-in-Err c = λ line lines keeps holds.
+returns-in-Err g c = λ line lines keeps holds.
     part_unkept (contents_of c.args.bench.now) (state_of c.args.desk.now) line lines _ (kept_as c.args.kept (Err c.in-Err.field-0) line (search rules) keeps) (search rules)

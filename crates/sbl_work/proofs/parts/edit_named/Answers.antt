@@ -12,7 +12,7 @@ use Rattle.sbl_work.proofs.ReplyFacts.{part_bad}
 use Rattle.sbl_work.proofs.parts.edit_named.Goals as goal
 
 pub returns-in-Some : goal.returns-in-Some
-returns-in-Some c = λ lines holds.
+returns-in-Some g c = λ lines holds.
     let s = contents_of c.args.bench.now in
     let t = contents_of c.edit_part.new.bench in
     let d = state_of c.args.desk.now in
@@ -21,6 +21,6 @@ returns-in-Some c = λ lines holds.
     subst (λ (o : Option ScriptEdit). IsWorkAnswer s d (part_command o (made_text lines) (text_of_block lines)) c.edit_part.result t e) named (c.edit_part.ensures lines holds)
 
 pub returns-in-None : goal.returns-in-None
-returns-in-None c = λ lines holds.
+returns-in-None g c = λ lines holds.
     let none : target_of c.args.line.now ≡ None = sym c.part_of.ensures ∙ ap (option_map view_part) c.in-None.is in
     search (rules, part_bad)

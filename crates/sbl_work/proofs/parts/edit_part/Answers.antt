@@ -10,7 +10,7 @@ use Rattle.sbl_work.proofs.ReplyFacts.{part_kept, part_refused}
 use Rattle.sbl_work.proofs.parts.edit_part.Goals as goal
 
 pub returns-in-Ok : goal.returns-in-Ok
-returns-in-Ok c = λ lines holds.
+returns-in-Ok g c = λ lines holds.
     let s = contents_of c.args.bench.now in
     let t = contents_of c.replace_part_kept.new.bench in
     let d = state_of c.args.desk.now in
@@ -19,7 +19,7 @@ returns-in-Ok c = λ lines holds.
     part_kept s t d e (view_part c.args.part) c.in-Ok.text.items lines c.replace_part_kept.result c.edit_reply.result names.0 names.1 c.replace_part_kept.ensures c.edit_reply.ensures
 
 pub returns-in-Err : goal.returns-in-Err
-returns-in-Err c = λ lines holds.
+returns-in-Err g c = λ lines holds.
     let r = c.edit_reply-in-Err.result in
     part_refused (contents_of c.args.bench.now) (state_of c.args.desk.now) (state_of c.note_whole.new.desk) (view_part c.args.part) lines c.in-Err.fault r (c.in-Err.ensures lines holds)
     c.note_whole.ensures.desk (subst (λ (x : Result (Unit {0}) EditFault). IsReply r (edit_text (fault_in x))) c.note_whole.ensures.same c.edit_reply-in-Err.ensures)

@@ -7,7 +7,7 @@ use Rattle.sbl_work.proofs.WordFileFacts.{words_answer}
 use Rattle.sbl_work.proofs.word_files.words_reply.Goals as goal
 
 pub returns-in-Some : goal.returns-in-Some
-returns-in-Some c = λ d.
+returns-in-Some g c = λ d.
     let s = contents_of c.args.bench.now in
     let t = contents_of c.reread_words.new.bench in
     let is : c.args.file ≡ Some c.in-Some.bytes = search rules in

@@ -10,12 +10,12 @@ use Rattle.sbl_bench.proofs.Bringing.{exchange_brings}
 use Rattle.sbl_bench.proofs.bench.Bench.exchange.Goals as goal
 
 pub returns-in_err-affected-clause-edits : goal.returns-in_err-affected-clause-edits
-returns-in_err-affected-clause-edits c e is =
+returns-in_err-affected-clause-edits g c e is =
     let f = err_from_is_err_and c.from_residual.result c.from_residual.ensures.1 in
     rw (f.1, f.2) (BeforeEdit is.wants is.passes refl)
 
 pub take_script-requires : goal.take_script-requires
-take_script-requires c =
+take_script-requires g c =
     let p = source_of c.self.inside.script in
     let q = source_of c.args.script.now in
     let l = c.self.inside.limit in
@@ -27,7 +27,7 @@ take_script-requires c =
     (e, subst (λ (k : KeptRuns). Brings (contents_of k) e (under q k.limit) a) c.self.view_is b)
 
 pub returns-clause-edits : goal.returns-clause-edits
-returns-clause-edits c e given =
+returns-clause-edits g c e given =
     let p = source_of c.self.inside.script in
     let q = source_of c.args.script.now in
     let l = c.self.inside.limit in

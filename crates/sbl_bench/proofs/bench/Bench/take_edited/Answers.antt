@@ -11,12 +11,12 @@ use Rattle.sbl_bench.proofs.Bringing.{edited_brings}
 use Rattle.sbl_bench.proofs.bench.Bench.take_edited.Goals as goal
 
 pub returns-in_err-affected-clause-edits : goal.returns-in_err-affected-clause-edits
-returns-in_err-affected-clause-edits c e text is =
+returns-in_err-affected-clause-edits g c e text is =
     let f = err_from_is_err_and c.from_residual.result c.from_residual.ensures.1 in
     rw (f.1, f.2) (BeforeEdit (λ w same. cc same) is.passes refl)
 
 pub take_script-requires : goal.take_script-requires
-take_script-requires c =
+take_script-requires g c =
     let e = c.requires.0 in
     let text = c.requires.1 in
     let p = source_of c.self.inside.script in
@@ -30,7 +30,7 @@ take_script-requires c =
     (Replace e text, subst (λ (k : KeptRuns). Brings (contents_of k) (Replace e text) (under q k.limit) a) c.self.view_is b)
 
 pub returns-clause-edits : goal.returns-clause-edits
-returns-clause-edits c e text is =
+returns-clause-edits g c e text is =
     let p = source_of c.self.inside.script in
     let q = source_of c.args.script in
     let l = c.self.inside.limit in

@@ -4,6 +4,7 @@ use Rattle.std.proofs.lemmas.Result.{err_from_is_err_and}
 use Rattle.sbl_script.specs.ParsedScript.{ParsedScript, source_of}
 use Rattle.sbl_machine.specs.MachineOf.{IsLinkedMachineOf}
 use Rattle.sbl_bench.specs.inside.Changes.{Brings, affected_of}
+use Rattle.sbl_bench.specs.BreakingOff.{EditsOrBreaks}
 use Rattle.sbl_bench.specs.Edits.{BeforeEdit, Edits}
 use Rattle.sbl_bench.specs.KeptRuns.{KeptWord, IsKept, IsWord, KeptRuns, contents_of, words_in}
 use Rattle.sbl_rows.specs.ChangedRows.{changed_rows}
@@ -23,12 +24,12 @@ words_length : (es : List KeptWord) → length (words_in es) ≡ length es
 words_length es = length-map es _
 
 pub returns-in_err-after-clause-edits : goal.returns-in_err-after-clause-edits
-returns-in_err-after-clause-edits c e brings =
+returns-in_err-after-clause-edits g c e brings =
     let f = err_from_is_err_and c.from_residual.result c.from_residual.ensures.1 in
     rw (f.1, f.2) (BeforeEdit brings.wants brings.passes refl)
 
 pub returns-in_err-changes-clause-edits : goal.returns-in_err-changes-clause-edits
-returns-in_err-changes-clause-edits c e brings =
+returns-in_err-changes-clause-edits g c e brings =
     let p = source_of c.self.inside.script in
     let q = source_of c.args.script.now in
     let l = c.self.inside.limit in
@@ -40,11 +41,11 @@ returns-in_err-changes-clause-edits c e brings =
     let g = c.in_err-changes.field-0.0 in
     let f = err_from_is_err_and c.from_residual-in_err-changes.result c.from_residual-in_err-changes.ensures.1 in
     let after : Contents = record { setting = under p l; words = words_in es; count = c.rerun.new.meter } in
-    rw (f.1, f.2) (subst (λ (k : KeptRuns). Edits (Err g) (contents_of k) e after) c.self.view_is
+    rw (f.1, f.2) (subst (λ (k : KeptRuns). EditsOrBreaks (Err g) (contents_of k) e after) c.self.view_is
     (stop_edits s e t a es b refl c.self.invariant.1.fresh g c.rerun.new.meter c.in_err-changes.ensures.stop))
 
 pub make_changes-last-requires-clause-changes : goal.make_changes-last-requires-clause-changes
-make_changes-last-requires-clause-changes c =
+make_changes-last-requires-clause-changes g c =
     let e = c.requires.0 in
     let p = source_of c.self.inside.script in
     let q = source_of c.args.script.now in
@@ -57,12 +58,12 @@ make_changes-last-requires-clause-changes c =
     (t, anew a t es c.in_ok-changes.changes.items (c.in_ok-changes.ensures.changes q c.in_ok-after.ensures) (still s.setting t a b.stays es c.self.invariant.1.fresh))
 
 pub make_changes-last-requires-clause-apart : goal.make_changes-last-requires-clause-apart
-make_changes-last-requires-clause-apart c =
+make_changes-last-requires-clause-apart g c =
     let q = source_of c.args.script.now in
     apart (under q c.self.inside.limit) (affected_of c.args.affected.now) c.self.inside.traces.entries c.in_ok-changes.changes.items (c.in_ok-changes.ensures.changes q c.in_ok-after.ensures) c.rerun.ensures.unique
 
 pub invariant_of-self-2 : goal.invariant_of-self-2
-invariant_of-self-2 c =
+invariant_of-self-2 g c =
     let e = c.requires.0 in
     let p = source_of c.self.inside.script in
     let q = source_of c.args.script.now in
@@ -85,7 +86,7 @@ invariant_of-self-2 c =
     )
 
 pub returns-clause-edits : goal.returns-clause-edits
-returns-clause-edits c e brings =
+returns-clause-edits g c e brings =
     let p = source_of c.self.inside.script in
     let q = source_of c.args.script.now in
     let l = c.self.inside.limit in
@@ -101,7 +102,7 @@ returns-clause-edits c e brings =
     (commit_edits s e t a es b refl c.self.invariant.1.fresh c.make_changes-last.new.traces.entries c.rerun.new.meter c.make_changes-last.ensures.words c.in_ok-changes.ensures.room c.in_ok-changes.ensures.counted))
 
 pub returns-clause-changes : goal.returns-clause-changes
-returns-clause-changes c =
+returns-clause-changes g c =
     let e = c.requires.0 in
     let p = source_of c.self.inside.script in
     let q = source_of c.args.script.now in
