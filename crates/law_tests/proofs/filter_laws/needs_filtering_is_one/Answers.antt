@@ -1,0 +1,46 @@
+use Rattle.std.proofs.Common.{◌≡◌, Result, Ok, Err, refl}
+use Rattle.sbl_batch.specs.Laws.{IsToldByBytes}
+use Rattle.sbl_input.specs.declared.faults.LoadFault.{LoadFault}
+use Rattle.sbl_input.specs.declared.faults.LoadFault.TheVariants.{Input, Open, Script}
+use Rattle.sbl_io.specs.declared.faults.ServeFault.TheVariants as fault
+use Rattle.sbl_text.specs.declared.fault.ScriptFault.TheVariants as script
+use Rattle.law_tests.specs.Filters.{IsOfBytes}
+use Rattle.law_tests.proofs.filter_laws.needs_filtering_is_one.Goals as goal
+
+told : (r : Result (Unit {0}) LoadFault) → IsOfBytes r → IsToldByBytes r
+told (Ok u) of = tt
+told (Err (Open f)) of = tt
+told (Err (Input fault.Read)) of = absurd (of.0 refl)
+told (Err (Input fault.Write)) of = absurd (of.1 refl)
+told (Err (Input fault.OutOfMemory)) of = absurd (of.2 refl)
+told (Err (Input fault.LineTooLong)) of = tt
+told (Err (Input fault.Cut)) of = tt
+told (Err (Input fault.LengthsDiffer)) of = tt
+told (Err (Input fault.NotText)) of = tt
+told (Err (Script script.OutOfMemory)) of = absurd (of.3 refl)
+told (Err (Script (script.BadCharacter at))) of = tt
+told (Err (Script (script.UnclosedString at))) of = tt
+told (Err (Script (script.UnclosedComment at))) of = tt
+told (Err (Script (script.UnknownEscape at))) of = tt
+told (Err (Script (script.BadCode at))) of = tt
+told (Err (Script (script.NumberTooLarge at))) of = tt
+told (Err (Script (script.Syntax at))) of = tt
+told (Err (Script (script.TooDeep at))) of = tt
+told (Err (Script (script.DeclaredTwice at))) of = tt
+told (Err (Script (script.Undeclared at))) of = tt
+told (Err (Script (script.WrongKind at))) of = tt
+told (Err (Script (script.DefinedTwice at))) of = tt
+told (Err (Script (script.Undefined at))) of = tt
+told (Err (Script (script.WrongMode at))) of = tt
+told (Err (Script (script.Substring at))) of = tt
+told (Err (Script (script.Starter at))) of = tt
+told (Err (Script (script.RepeatedString at))) of = tt
+told (Err (Script (script.EmptyAmong at))) of = tt
+told (Err (Script (script.NestedBackwards at))) of = tt
+told (Err (Script (script.OutOfProfile at))) of = tt
+told (Err (Script script.NoExternal)) of = tt
+told (Err (Script script.NotUtf8)) of = tt
+told (Err (Script script.ScriptTooLong)) of = tt
+
+pub returns : goal.returns
+returns c = λ bytes external a b text other r q one two w v. c.filtering_is_one.ensures bytes external a b text other r q (told r one) (told q two) w v
