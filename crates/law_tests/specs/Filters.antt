@@ -1,5 +1,5 @@
 -- Filters and benches of the bytes of an input. `rest` is the input that is left, `external` the name of the external.
-use Rattle.std.specs.Prelude.{◌≡◌, ◌++◌, ◌∷◌, ℕ, true, false, List, [], Option, Some, Result, Ok, Err, ⊥}
+use Rattle.std.specs.Prelude.{◌≡◌, ◌++◌, ◌∷◌, ℕ, true, false, List, [], Option, Some, Result, Ok, Err}
 use Rattle.sbl_ast.specs.Source.{Source}
 use Rattle.sbl_batch.specs.Filter.{Filters, IsFiltered, filter_output, is_filled}
 use Rattle.sbl_batch.specs.ToEnd.{FiltersToEnd, without_line}

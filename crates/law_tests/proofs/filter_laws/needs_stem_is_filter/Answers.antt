@@ -16,5 +16,5 @@ no-repeats (w ∷ ws) once = (first (is_filled w) refl, no-repeats ws rest)
     rest : IsEachOnce ws
     rest before after v is = once (w ∷ before) after v (ap (λ (x : List (List ℕ)). w ∷ x) is)
 
-pub same : goal.same
-same c = λ s words once. c.stem_is_filter.same s words (no-repeats words once)
+pub returns-clause-same : goal.returns-clause-same
+returns-clause-same c = λ s words once. c.stem_is_filter.ensures.same s words (no-repeats words once)
