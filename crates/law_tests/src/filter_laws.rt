@@ -27,6 +27,7 @@ pub fn needs_parts_make_whole()
 }
 
 /// Needs the whole of the law `stem_is_filter`.
+#[tactic(auto, using(crate::proofs::FilterPremises::no_repeats))]
 pub fn needs_stem_is_filter()
     ensures vocabulary { (s : Source) (words : List (List ℕ)) → stems_text (opening_contents s words) ≡ filter_output s (vocabulary words) }
     ensures same { (s : Source) (words : List (List ℕ)) → IsEachOnce words → filter_output s words ≡ stems_text (opening_contents s words) }
@@ -49,6 +50,7 @@ pub fn needs_inputs_are_one()
 }
 
 /// Needs the whole of the law `filtering_is_one`.
+#[tactic(auto, using(crate::proofs::FilterPremises::told))]
 pub fn needs_filtering_is_one()
     ensures { (bytes external : List ℕ) (a b : Option (List ℕ)) (text other : List ℕ) (r q : Result (Unit {0}) LoadFault) → WriteOne bytes external a b text other r q }
 {

@@ -1,13 +1,15 @@
-use Rattle.std.proofs.Common.{Result, Ok, Err, refl}
-use Rattle.sbl_batch.specs.Laws.{IsToldByBytes}
+-- The premises of the laws of filters, from those that law_tests writes out.
+use Rattle.std.proofs.Common.{◌≡◌, ◌∙◌, ◌&&◌, ℕ, Bool, true, false, List, [], ◌∷◌, Result, Ok, Err, refl, ap}
+use Rattle.sbl_bench.specs.Vocabulary.{is_word}
+use Rattle.sbl_batch.specs.Filter.{is_filled}
+use Rattle.sbl_batch.specs.Laws.{IsToldByBytes, NoRepeats}
 use Rattle.sbl_input.specs.declared.faults.LoadFault.{LoadFault}
 use Rattle.sbl_input.specs.declared.faults.LoadFault.TheVariants.{Input, Open, Script}
 use Rattle.sbl_io.specs.declared.faults.ServeFault.TheVariants as fault
 use Rattle.sbl_text.specs.declared.fault.ScriptFault.TheVariants as script
-use Rattle.law_tests.specs.Filters.{IsOfBytes}
-use Rattle.law_tests.proofs.filter_laws.needs_filtering_is_one.Goals as goal
+use Rattle.law_tests.specs.Filters.{IsEachOnce, IsOfBytes}
 
-told : (r : Result (Unit {0}) LoadFault) → IsOfBytes r → IsToldByBytes r
+pub told : (r : Result (Unit {0}) LoadFault) → IsOfBytes r → IsToldByBytes r
 told (Ok u) of = tt
 told (Err (Open f)) of = tt
 told (Err (Input fault.Read)) of = absurd (of.0 refl)
@@ -42,5 +44,13 @@ told (Err (Script script.NoExternal)) of = tt
 told (Err (Script script.NotUtf8)) of = tt
 told (Err (Script script.ScriptTooLong)) of = tt
 
-pub returns : goal.returns
-returns c = λ bytes external a b text other r q one two w v. c.filtering_is_one.ensures bytes external a b text other r q (told r one) (told q two) w v
+pub no_repeats : (words : List (List ℕ)) → IsEachOnce words → NoRepeats words
+no_repeats [] once = tt
+no_repeats (w ∷ ws) once = (first (is_filled w) refl, no_repeats ws rest)
+  where
+    first : (filled : Bool) → is_filled w ≡ filled → (is_filled w && is_word w ws) ≡ false
+    first true is = ap (λ (x : Bool). x && is_word w ws) is ∙ once [] ws w refl is
+    first false is = ap (λ (x : Bool). x && is_word w ws) is
+
+    rest : IsEachOnce ws
+    rest before after v is = once (w ∷ before) after v (ap (λ (x : List (List ℕ)). w ∷ x) is)
