@@ -53,6 +53,7 @@ STRANGE: Sequence[Tuple[str, str]] = (
     (r"watch( |\Z)", "quit, and start work --watch: then it reads each save by itself."),
     (r"warnings( |\Z)", "lint lists what may not be meant in the script and the words."),
     *((r"%s( |\Z)" % verb, "{c} is not a command here. In a shell: {called} {c} %s." % files) for verb, files in IN_SHELL.items()),
+    (r"(%s)\s*>" % "|".join(REPORTING), "A report goes into a file by > FILE, with blanks around the >, as in: classes > my.classes."),
     (COMMENT, "A comment begins with # at the beginning of the line. replace takes a whole script, up to a line with a single point."),
     (r"define( |\Z)", "A definition begins with define NAME as, or define NAME and the terms of a grouping, in one line."),
     (DECLARATION, "This looks like a script. replace takes a whole one, up to a line with a single point."),

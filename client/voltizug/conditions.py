@@ -50,14 +50,15 @@ class Routine:
         return self.tokens[self.at - 1].text
 
     def row(self, around: List[List[int]], is_back: bool) -> str:
-        """Reads commands with `or` and `and` between them."""
-        row = [self.at, self.at]
+        """Reads commands with `or` and `and` between them. Returns the first words; of a setlimit that has only a search, `substring`."""
+        row, self.searched = [self.at, self.at], ""
         self.command([*around, row], is_back)
+        is_search = self.tokens[row[0]].text == "setlimit" and self.searched == "s" and self.peek() not in ("or", "and")
         while self.peek() in ("or", "and"):
             self.at += 1
             self.command([*around, row], is_back)
         row[1] = self.at
-        return " ".join(token.text for token in self.tokens[row[0] : min(row[1], row[0] + 3)])
+        return "substring" if is_search else " ".join(token.text for token in self.tokens[row[0] : min(row[1], row[0] + 3)])
 
     def command(self, around: List[List[int]], is_back: bool) -> None:
         begin, is_name, word = self.at, self.tokens[self.at].kind in ("name", "literal"), self.take()
@@ -75,6 +76,7 @@ class Routine:
             found += "a" if row.startswith("among ") else "s" * (row in ("substring", "test substring"))
         self.at += 1
         self.pairs += found.count("sa")
+        self.searched = found
 
     def among(self, _: List[List[int]], is_back: bool) -> None:
         self.at += 1

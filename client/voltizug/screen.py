@@ -68,12 +68,9 @@ class Screen:
         return True
 
 
-def to_file(path: str, lines: Sequence[str]) -> str:
-    """Writes a report to a new file; returns the sentence on it."""
-    try:
-        with open(path, "x", encoding="utf-8", errors="surrogateescape") as file:
-            file.write("".join(line + "\n" for line in lines))
-    except OSError as why:
-        there = "is there already, and is not overwritten. Nothing was written: name a new file."
-        return "%s %s" % (layout.short(path), there if isinstance(why, FileExistsError) else "cannot be written: %s." % why.strerror)
-    return "%s in %s" % (layout.counted(len(lines), "line"), layout.short(path))
+def to_file(path: str, lines: Sequence[str]) -> bool:
+    """Writes a report to a new file; returns whether it did."""
+    with contextlib.suppress(OSError), open(path, "x", encoding="utf-8", errors="surrogateescape") as file:
+        file.write("".join(line + "\n" for line in lines))
+        return True
+    return False
