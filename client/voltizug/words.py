@@ -12,7 +12,7 @@ from .kept import is_same, read_file, read_lines
 from .layout import counted, in_words, named, short
 from .near import folded, meant, near
 from .options import CALLED
-from .program import Reply
+from .program import Reply, encoded
 
 # By the number of a refusal its sentence. {c} is the command, {a} what follows it, {path} its file.
 SENTENCES: Dict[int, str] = {
@@ -258,10 +258,11 @@ def in_shell(path: str) -> str:
 def converting(path: str) -> str:
     """Returns how a file that is not UTF-8 becomes it, by its first bytes."""
     data, name = (read_file(path) or b"")[:65536], in_shell(path)
-    # (letters of Cyrillic and Greek are all beyond ASCII, and some of other encodings are signs in Latin-1)
-    beyond = "".join(chr(ord(c) - 0xDC00) for c in data.decode("utf-8", "surrogateescape") if "\udc80" <= c <= "\udcff")
+    # (in Cyrillic and Greek such letters come one after another, and some of other encodings are signs in Latin-1)
+    runs = re.findall("[\udc80-\udcff]+", data.decode("utf-8", "surrogateescape"))
+    beyond = encoded("".join(runs)).decode("latin1")
     mark = re.match(b"(\xff\xfe\0\0|\0\0\xfe\xff)|\xff\xfe|\xfe\xff", data)
-    is_latin = beyond.isalpha() and len(beyond) < len(re.findall(b"[A-Za-z]", data))
+    is_latin = beyond.isalpha() and len(beyond) < 2 * len(runs)
     code, what = ("latin1", "it is Latin-1") if is_latin else ("ENCODING", "its encoding is ENCODING, such as cp1250 or koi8-r")
     if mark or 4 * data.count(0) > len(data):
         code = ("utf-32" if mark[1] else "utf-16") if mark else "utf-16le" if data[::2].count(0) < data[1::2].count(0) else "utf-16be"
