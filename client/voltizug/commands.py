@@ -35,10 +35,8 @@ LANGUAGE = [name for name in COMMANDS if name in RESERVED]
 # A blank at the end of these may belong to a word.
 WITH_TEXT = [name for name, command in COMMANDS.items() if command.takes in ("WORD", "TEXT", "STEM", "NAME [K [STRING")]
 # Reports: they can be written to a file by > FILE, and have a pager.
-REPORTING = (
-    "changes class classes counts events families find history integers largest lint script show stats stem stems".split()
-    + "tests trace unused uses why".split()
-)
+REPORTING = "changes class classes counts events families find history integers largest lint script show stats stem stems".split()
+REPORTING += "tests trace unused uses why".split()
 # How a comment and a declaration of a script begin.
 COMMENT, DECLARATION = r"\s*(//|/\*)", r"(%s)( |\Z)" % "|".join(word for word in ITEMS if word != "define")
 # By the beginning of a line that is no command what is said of it. {c} is its first word.

@@ -1,6 +1,5 @@
-"""The tests of a run: which commands without a name that can signal f, as 'a', non-v or $p1 <= cursor, were true and which false. The commands are
-found by the tokens that the program tells. It tells the calls of routines, too: so it runs the word by a copy of the script in which each test is a
-routine of its own. If the copy does not do the same otherwise, nothing is told.
+"""The tests of a run: which commands without a name, as 'a', non-v or $p1 <= cursor, were true and which false. The program tells the calls of
+routines: so it runs the word by a copy of the script in which each test is a routine. If the copy does otherwise, nothing is told.
 """
 from collections import namedtuple
 from itertools import accumulate
@@ -173,8 +172,7 @@ class Copy:
 
 
 def agreed(events: Sequence[Any], kept: Sequence[Any]) -> int:
-    """Returns how many events of a run its copy has, too; 0 if the copy did otherwise. The copy may end before the run, since it takes more
-    steps, levels of calls and events."""
+    """Returns how many events of a run its copy has, too; 0 if it did otherwise. It may end before: it takes more steps, calls and events."""
     if not kept or list(kept) == list(events):
         return len(kept)
     body = [row for row in kept[:-1] if row.kind != "more"]

@@ -1,6 +1,4 @@
-"""What the program says about a fault, fitted to a window. The program counts a byte order mark as the first character of the first line; an
-editor does not. It does not name the file that has to be converted, nor say in words why a file cannot be read.
-"""
+"""What the program says about a fault, fitted to a window, with columns as an editor counts them, names of files, and advice."""
 import re
 from typing import List, NamedTuple, Optional, Sequence
 

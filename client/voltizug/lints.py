@@ -24,13 +24,12 @@ TAKING = ("delete", "<-", "->")
 
 
 def lints(bench: Bench, has_all: bool = False) -> List[str]:
-    """Returns lines on the current text. All has letters beyond ASCII in literals, too, of which other compilers warn; and of many words only
-    that looks at each."""
+    """Returns lines on the current text. All has letters beyond ASCII in literals, too; and of many words only that looks at each."""
     if len(bench.program.now.text) > LARGEST:
         return ["%s has more than {:,} bytes, and is not looked at".format(LARGEST) % named(bench.script)] if has_all else []
     places, outcomes = bench.places(), bench.outcomes() if has_all or bench.size <= MANY else []
     tokens = [token for token in places.tokens if token.kind != "comment"]
-    found = [*misused(tokens), *sure_alternatives(tokens), *unset_slices(places), *bare_commands(places, tokens), *plain_braces(tokens)]
+    found = [*misused(tokens), *unset_slices(places), *bare_commands(places, tokens), *plain_braces(tokens)]
     found += strange_strings(places, outcomes, tokens) if has_all or bench.size >= FEW else []
     beyond = [token for token in tokens if has_all and token.kind == "literal" and not token.text.isascii()]
     others = " (and {})".format(counted(len(beyond) - 1, "more literal")) if len(beyond) > 1 else ""
@@ -43,7 +42,7 @@ def lints(bench: Bench, has_all: bool = False) -> List[str]:
 
 
 def misused(tokens: Sequence[Token]) -> Iterable[Tuple[int, str]]:
-    """An empty slice, a limit for `[` alone, `$x = cursor`, a group of only a literal beside one with `<-`, and an integer that may stay 0."""
+    """An empty slice, a limit for `[`, `$x = cursor`, a group of only a literal beside one with `<-`, an integer that may stay 0, `do X or`."""
     texts, kinds = [token.text for token in tokens] + [""] * 7, [token.kind for token in tokens] + [""] * 7
     values = {(texts[i + 1], texts[i + 2]) for i, text in enumerate(texts) if text == "$"}
     for i, token in enumerate(tokens):
@@ -58,6 +57,9 @@ def misused(tokens: Sequence[Token]) -> Iterable[Tuple[int, str]]:
             yield tokens[i + 2].start, "({0}) only tests whether {0} is there: (<- {0}) is meant, perhaps".format(short(texts[i + 2]))
         elif token.text == "setmark" and (texts[i + 1], "=") not in values and any((texts[i + 1], sign) in values for sign in ("<", "<=", ">", ">=")):
             yield token.start, "{0} is 0 in the run of a word that does not come here: ${0} = limit before it is meant, perhaps".format(texts[i + 1])
+        elif token.text in SURE and texts[i - 1] not in NOT_SURE and texts[i + 1] and texts[end_of(tokens, i + 1)] == "or":
+            what = "{0} never fails, so what is after this or never runs: {0} ( .. or .. ) is meant, perhaps"
+            yield token.start, what.format(token.text)
 
 
 def bare_commands(places: Places, tokens: Sequence[Token]) -> Iterable[Tuple[int, str]]:
@@ -75,15 +77,6 @@ def bare_commands(places: Places, tokens: Sequence[Token]) -> Iterable[Tuple[int
             if is_doubtful and before not in GOVERNING and not before.isdigit() and part[end + 1] not in ("or", "and", ")", ""):
                 yield parts[name][i].start, what.format("( .. )" if i < end else part[i], name)
             before, i = part[end], end + 1
-
-
-def sure_alternatives(tokens: Sequence[Token]) -> Iterable[Tuple[int, str]]:
-    """What is after `or` never runs if `do X` is before it. X is a name, a literal or a bracket."""
-    what = "{0} never fails, so what is after this or never runs: {0} ( .. or .. ) is meant, perhaps"
-    for at, token in enumerate(tokens[:-1]):
-        is_sure = token.kind == "word" and token.text in SURE and not (at and tokens[at - 1].text in NOT_SURE)
-        if is_sure and [other.text for other in tokens[end_of(tokens, at + 1) :][:1]] == ["or"]:
-            yield token.start, what.format(token.text)
 
 
 def plain_braces(tokens: Sequence[Token]) -> Iterable[Tuple[int, str]]:
@@ -130,8 +123,7 @@ def end_of(tokens: Sequence[Token], at: int) -> int:
 
 
 def strange_strings(places: Places, outcomes: Sequence[Outcome], tokens: Sequence[Token]) -> Iterable[Tuple[int, str]]:
-    """The strings of amongs that have a letter which no word has and no command puts in. (Macros hide what is put in: if a literal that is put
-    in may have one, no string is looked at.)"""
+    """The strings of amongs with a letter that no word has and no command puts in. (If what is put in may have macros, none is looked at.)"""
     put = "".join(token.text for before, token in zip(tokens, tokens[1:]) if token.kind == "literal" and before.text in PUTTING)
     if not outcomes or set(put) & set("".join(token.text for token in tokens if token.kind == "inserts")):
         return

@@ -33,8 +33,7 @@ class Screen:
         return [part for line in lines for part in (layout.broken(layout.named(line), width) if " > NEW" not in line else [layout.named(line)])]
 
     def write(self, lines: Sequence[str], is_report: bool = False, is_text: bool = False, last: int = 0) -> None:
-        """Writes lines; those of a text are an author's, and are not broken. A report may go to the pager, and after it come so many of its last
-        lines, which are figures; if Ctrl-C ends it, that is said."""
+        """Writes lines; those of a text are not broken. A report may go to the pager; so many figures at its end come after that."""
         shown = list(map(layout.named, lines)) if is_text else self.broken(lines)
         figures = self.broken(lines[len(lines) - last :])
         is_paged = is_report and self.has_pager and not self.editor.is_above and len(shown) >= self.size().lines

@@ -11,19 +11,14 @@ from .words import converting, in_shell
 
 # What a line may have, and what is said of it. {file} is the file's name as a shell has it, {converting} how it becomes UTF-8.
 Kind = Tuple[Callable[[str], Any], str, str]
-
-
-def is_overlong(text: str) -> bool:
-    return len(encoded(text)) > LONGEST
-
-
 NOT_UTF8: Kind = (re.compile("[\udc80-\udcff]").search, "not UTF-8", ". {converting}")
 DECOMPOSED: Kind = (
     lambda text: not text.isascii() and len(unicodedata.normalize("NFC", text)) < len(text), "a letter and its accent are two characters (NFD)",
     ", and one character (NFC) does not match them. To compose them: uconv -x any-nfc {file} > NEW",
 )
-LONG_LINE: Kind = (is_overlong, "more than 65,536 bytes", ". run, check, filter and session refuse such a line (72 LineTooLong). Break it")
-LONG_WORD: Kind = (is_overlong, "more than 65,536 bytes, which no line may have", ". Write one word on each line")
+IS_LONG: Callable[[str], Any] = lambda text: len(encoded(text)) > LONGEST
+LONG_LINE: Kind = (IS_LONG, "more than 65,536 bytes", ". run, check, filter and session refuse such a line (72 LineTooLong). Break it")
+LONG_WORD: Kind = (IS_LONG, "more than 65,536 bytes, which no line may have", ". Write one word on each line")
 OF_WORDS: Sequence[Kind] = (
     (
         re.compile(r"^[^\S\n]|[^\S\n]$", re.M).search, "a blank at an end of the word, which belongs to it",
