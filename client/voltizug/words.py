@@ -260,8 +260,7 @@ def converting(path: str) -> str:
     data, name = (read_file(path) or b"")[:65536], in_shell(path)
     # (in Cyrillic and Greek such letters come one after another, and some of other encodings are signs in Latin-1)
     runs = re.findall("[\udc80-\udcff]+", data.decode("utf-8", "surrogateescape"))
-    beyond = encoded("".join(runs)).decode("latin1")
-    mark = re.match(b"(\xff\xfe\0\0|\0\0\xfe\xff)|\xff\xfe|\xfe\xff", data)
+    beyond, mark = encoded("".join(runs)).decode("latin1"), re.match(b"(\xff\xfe\0\0|\0\0\xfe\xff)|\xff\xfe|\xfe\xff", data)
     is_latin = beyond.isalpha() and len(beyond) < 2 * len(runs)
     code, what = ("latin1", "it is Latin-1") if is_latin else ("ENCODING", "its encoding is ENCODING, such as cp1250 or koi8-r")
     if mark or 4 * data.count(0) > len(data):
