@@ -71,6 +71,21 @@ class Sessions(Case):
         terminal.save(script % "define stem as ( try ( a b ) or b )")
         self.assertIn("my.sbl:7:18: try never fails", terminal.enter(""))
 
+    def test_a_sign_in_the_name_of_a_macro_is_no_letter(self):
+        script = "stringescapes {}\nstringdef o/ hex 'F8'\nexternals ( stem )\ndefine stem as ( [ among ( '{o/}' 'q' (delete) ) )\n"
+        self.begin(script, "cat/AB\n")
+        self.assertIn("1 of 1 words has a sign that is no letter, as 'cat/AB', and no literal has it", self.start)
+
+    def test_a_bracket_without_do(self):
+        """Only if its last alternative may fail and change the text, and something comes after it."""
+        script = "externals ( stem )\nroutines ( a b )\ndefine a as ( [ 'a' ] delete )\ndefine b as ( [ 'b' ] delete )\ndefine stem as ( %s )\n"
+        terminal = self.begin(script % "( a or b ) do a")
+        self.assertIn("my.sbl:5:18: if ( .. ) fails, nothing after it in stem runs: do ( .. ) is meant, perhaps", self.start)
+        for body in ("do ( a or b ) do a", "( a or do b ) do a", "( a or b ) or true", "( a or 'x' ) do a", "do a ( a or b )", "try ( ( a or b ) do a )"):
+            terminal.save(script % body)
+            terminal.enter("")
+            self.assertNotIn("fails, nothing after it", terminal.enter("lint"))
+
     def test_lint_has_the_warnings_on_the_files(self):
         terminal = self.begin(words="cats \ndogs\n")
         self.assertIn("my.words:1: a blank at an end of the word", terminal.enter("lint"))

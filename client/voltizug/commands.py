@@ -48,7 +48,7 @@ STRANGE: Sequence[Tuple[str, str]] = (
     (r"clear( |\Z)", "Ctrl-L clears the screen. quit or Ctrl-D ends."),
     (r"!|(ls|cd|cat|vi|vim|nano|emacs|grep|less|git|man|tail|head|wc|(\S*/)?snowbench)( |\Z)", "{c} is a command of a shell: use another window."),
     (r"edit( |\Z)", "Change the script in your editor, and save it; or type routine NAME, among NAME K or grouping NAME, and the new text."),
-    (r"watch( |\Z)", "quit, and start work --watch: then it reads each save by itself."),
+    (r"watch( |\Z)", "work --watch reads each save by itself. If this one does not, quit and start it so."),
     (r"warnings( |\Z)", "lint lists what may not be meant in the script and the words."),
     *((r"%s( |\Z)" % verb, "{c} is not a command here. In a shell: {called} {c} %s." % files) for verb, files in IN_SHELL.items()),
     (r"(%s)\s*>" % "|".join(REPORTING), "A report goes into a file by > FILE, with blanks around the >, as in: classes > my.classes."),
