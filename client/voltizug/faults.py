@@ -49,7 +49,7 @@ def shown(said: Sequence[str], script: str, text: Optional[bytes], width: int) -
             lines[i] += ". Look for a missing quote before it, too"
         elif " => is of Snowball" in line and re.search(r"\$\s*\w+\s*=>", lines[i + 1]):
             lines[i] += ". Did you mean >=?"
-        elif line.endswith(" the name that is inserted here"):
+        elif line.endswith(" the name that is inserted here") and "^" in "".join(lines[i + 2 : i + 3]):
             name = lines[i + 1][lines[i + 2].index("^") + 1 :].partition("}")[0]
             names = re.findall(r"\bstringdef\s+(\S+)", (text or b"").decode("utf-8", "replace"))
             lines[i] += ". A } is missing, perhaps" if " " in name else "." * bool(near(name, names)) + meant(name, names)

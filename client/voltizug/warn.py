@@ -47,7 +47,7 @@ def on_several(name: str, path: str, text: str) -> List[str]:
     lines, said, there = [line.strip() for line in text.split("\n")], [], set()  # type: List[str], List[str], Set[str]
     for sign, what, command in BETWEEN:
         rows = [line.split(sign.strip(" ") or None) for line in lines if sign in line]
-        words, is_most = [sum(not re.search("[0-9]", cell) for cell in set(cells)) for cells in zip(*rows)], 2 * len(rows) > len(lines)
+        words, is_most = [sum(not re.search("[0-9]", cell) for cell in set(cells)) for cells in zip(*rows[:1000])], 2 * len(rows) > len(lines)
         then = ". If this is a table: %s {file} > NEW" % command % (words.index(max(words)) + 1 if words else 1)
         if sign == " " and not (is_most and len(rows) > 1 and 0 in words):
             then = ". A line is one word" + ". If this is running text: tr -s ' ' '\\n' < {file} > NEW" * is_most

@@ -256,8 +256,8 @@ def in_shell(path: str) -> str:
 
 
 def converting(path: str) -> str:
-    """Returns how a file that is not UTF-8 becomes it, by its first bytes."""
-    data, name = (read_file(path) or b"")[:65536], in_shell(path)
+    """Returns how a file that is not UTF-8 becomes it, by its bytes."""
+    data, name = read_file(path) or b"", in_shell(path)
     # (in Cyrillic and Greek such letters come one after another, and some of other encodings are signs in Latin-1)
     runs = re.findall("[\udc80-\udcff]+", data.decode("utf-8", "surrogateescape"))
     beyond, mark = encoded("".join(runs)).decode("latin1"), re.match(b"(\xff\xfe\0\0|\0\0\xfe\xff)|\xff\xfe|\xfe\xff", data)
