@@ -1,15 +1,15 @@
--- The premises of the laws of filters, from those that law_tests writes out.
-use Rattle.std.proofs.Common.{◌≡◌, ◌∙◌, ◌&&◌, ℕ, Bool, true, false, List, [], ◌∷◌, Result, Ok, Err, refl, ap}
+-- The laws of filters with the premises that law_tests writes out.
+use Rattle.std.proofs.Common.{◌≡◌, ◌∙◌, ◌&&◌, ℕ, Bool, true, false, List, [], ◌∷◌, Option, Result, Ok, Err, refl, ap}
 use Rattle.sbl_bench.specs.Vocabulary.{is_word}
 use Rattle.sbl_batch.specs.Filter.{is_filled}
-use Rattle.sbl_batch.specs.Laws.{IsToldByBytes, NoRepeats}
+use Rattle.sbl_batch.specs.Laws.{FilteringIsOne, IsToldByBytes, NoRepeats}
 use Rattle.sbl_input.specs.declared.faults.LoadFault.{LoadFault}
 use Rattle.sbl_input.specs.declared.faults.LoadFault.TheVariants.{Input, Open, Script}
 use Rattle.sbl_io.specs.declared.faults.ServeFault.TheVariants as fault
 use Rattle.sbl_text.specs.declared.fault.ScriptFault.TheVariants as script
-use Rattle.law_tests.specs.Filters.{IsEachOnce, IsOfBytes}
+use Rattle.law_tests.specs.Filters.{IsEachOnce, IsOfBytes, WriteOne}
 
-pub told : (r : Result (Unit {0}) LoadFault) → IsOfBytes r → IsToldByBytes r
+told : (r : Result (Unit {0}) LoadFault) → IsOfBytes r → IsToldByBytes r
 told (Ok u) of = tt
 told (Err (Open f)) of = tt
 told (Err (Input fault.Read)) of = absurd (of.0 refl)
@@ -43,6 +43,10 @@ told (Err (Script (script.OutOfProfile at))) of = tt
 told (Err (Script script.NoExternal)) of = tt
 told (Err (Script script.NotUtf8)) of = tt
 told (Err (Script script.ScriptTooLong)) of = tt
+
+pub filters_are_one : FilteringIsOne → (bytes external : List ℕ) (a b : Option (List ℕ)) (text other : List ℕ) (r q : Result (Unit {0}) LoadFault)
+    → WriteOne bytes external a b text other r q
+filters_are_one one bytes external a b text other r q mine yours = one bytes external a b text other r q (told r mine) (told q yours)
 
 pub no_repeats : (words : List (List ℕ)) → IsEachOnce words → NoRepeats words
 no_repeats [] once = tt

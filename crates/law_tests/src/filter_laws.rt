@@ -50,7 +50,7 @@ pub fn needs_inputs_are_one()
 }
 
 /// Needs the whole of the law `filtering_is_one`.
-#[tactic(auto, using(crate::proofs::FilterPremises::told))]
+#[tactic(auto, using(crate::proofs::FilterPremises::filters_are_one))]
 pub fn needs_filtering_is_one()
     ensures { (bytes external : List ℕ) (a b : Option (List ℕ)) (text other : List ℕ) (r q : Result (Unit {0}) LoadFault) → WriteOne bytes external a b text other r q }
 {
