@@ -126,6 +126,35 @@ class Others(Case):
             "sbl:1: a byte order mark, which is left out. T", "words:1: a blank at an end of the word, which ", "words:2: a blank inside the word, which belong",
         ])
 
+    def test_the_encoding_of_a_file(self):
+        """By its bytes: words of Icelandic, Czech, Russian and Greek, and marks of UTF-16 and UTF-32."""
+        other = "its encoding is ENCODING, such as cp1250 or koi8-r: iconv -f ENCODING"
+        for data, wanted in (
+            ("hús\nblóð\nærð\n".encode("latin1"), "it is Latin-1: iconv -f latin1"), ("k\u016f\u0148\n\u017eivot\n".encode("iso-8859-2"), other),
+            ("\u0434\u043e\u043c\n".encode("koi8-r"), other), ("\u03b8\u03b5\u03cc\u03c2\n".encode("iso-8859-7"), other),
+            ("hús\n".encode("cp437"), other), ("externals ( stem ) // \u0434\u043e\u043c\n".encode("cp1251"), other),
+            ("cat\n".encode("utf-16-le"), "it is UTF-16LE: iconv -f utf-16le"), ("cat\n".encode("utf-16-be"), "it is UTF-16BE: iconv -f utf-16be"),
+            (b"\xfe\xff\0c", "it is UTF-16: iconv -f utf-16"), (b"\xff\xfe\0\0c\0\0\0", "it is UTF-32: iconv -f utf-32"),
+        ):
+            path = os.path.join(self.room(my_words=data), "my.words")
+            self.assertEqual(words.converting(path).partition(" -t ")[0], "If " + wanted)
+
+    def test_words_in_a_table_or_a_text(self):
+        """By a text what is advised. A file with a name of its own is taken as the words."""
+        for text, wanted in (
+            ("1\tcats\tN\n2\tdogs\tN\n", "cut -f2"), ("cats\t1\ndogs\t1\n", "cut -f1"), ("1,cats\n2,dogs\n", "cut -d, -f2"), ("cats;1\ndogs;2\n", "cut -d';' -f1"),
+            ("  12 cats\n   7 dogs\n", "awk '{print $2}'"), ("the cats and\ndogs are\n", "tr -s ' ' '\\n' <"), ("cats\nhot dogs\nmice\n", ""), ("cats, \nmice\ndogs\n", ""),
+        ):
+            room = self.room(my_sbl="externals ( stem )\n", my_words=text)
+            said = warn.warnings_on(os.path.join(room, "my.sbl"), os.path.join(room, "my.words"))
+            advice = [line.rpartition(": ")[2].partition(" " + room)[0] for line in said if "If this is" in line]
+            self.assertEqual(advice, [wanted] if wanted else [])
+
+    def test_words_that_are_there_already(self):
+        room = self.room(my_sbl="externals ( stem )\n", my_words="cats\n\ndogs\ncats\n\ncats\n")
+        said = warn.warnings_on(os.path.join(room, "my.sbl"), os.path.join(room, "my.words"))
+        self.assertEqual([line.partition("my.words:")[2][:47] for line in said], ["4: a word that is there already (and 1 more lin"])
+
     def test_why_no_file_can_be_written(self):
         self.assertIn(words.no_room("/proc"), ("No such file or directory", "Permission denied"))
         self.assertEqual(words.no_room(self.room()), "perhaps the disk is full")

@@ -71,6 +71,21 @@ class Sessions(Case):
         terminal.save(script % "define stem as ( try ( a b ) or b )")
         self.assertIn("my.sbl:7:18: try never fails", terminal.enter(""))
 
+    def test_a_sign_in_the_name_of_a_macro_is_no_letter(self):
+        script = "stringescapes {}\nstringdef o/ hex 'F8'\nexternals ( stem )\ndefine stem as ( [ among ( '{o/}' 'q' (delete) ) )\n"
+        self.begin(script, "cat/AB\n")
+        self.assertIn("1 of 1 words has a sign that is no letter, as 'cat/AB', and no literal has it", self.start)
+
+    def test_a_bracket_without_do(self):
+        """Only if its last alternative may fail and change the text, and something comes after it."""
+        script = "externals ( stem )\nroutines ( a b )\ndefine a as ( [ 'a' ] delete )\ndefine b as ( [ 'b' ] delete )\ndefine stem as ( %s )\n"
+        terminal = self.begin(script % "( a or b ) do a")
+        self.assertIn("my.sbl:5:18: if ( .. ) fails, nothing after it in stem runs: do ( .. ) is meant, perhaps", self.start)
+        for body in ("do ( a or b ) do a", "( a or do b ) do a", "( a or b ) or true", "( a or 'x' ) do a", "do a ( a or b )", "try ( ( a or b ) do a )"):
+            terminal.save(script % body)
+            terminal.enter("")
+            self.assertNotIn("fails, nothing after it", terminal.enter("lint"))
+
     def test_lint_has_the_warnings_on_the_files(self):
         terminal = self.begin(words="cats \ndogs\n")
         self.assertIn("my.words:1: a blank at an end of the word", terminal.enter("lint"))
@@ -93,6 +108,39 @@ class Sessions(Case):
         terminal = self.begin()
         os.remove(os.path.join(self.folder, "my.sbl"))
         self.assertEqual(terminal.enter(""), "my.sbl cannot be read: there is no such file. The script that was read stays: save FILE keeps it.")
+
+    def test_a_list_that_is_gone_is_not_begun_again(self):
+        terminal = self.begin(words="news\n")
+        terminal.enter("add cats")
+        os.remove(os.path.join(self.folder, "my.words"))
+        self.assertEqual(terminal.enter("append"), "my.words is not there any more, and was not written: name another file.")
+        self.assertEqual(terminal.enter("append other.words"), "1 word is now at the end of other.words.")
+        terminal.save("glass\n", "my.words")
+        self.assertEqual(terminal.enter("words", "words").split("\n")[0], "1 word")
+
+    def test_the_loop_of_a_typed_routine(self):
+        terminal = self.begin()
+        shown = terminal.enter("routine plural", "repeat true", ".")
+        self.assertIn("needs more than 100,000 steps. It may be the repeat of line 1 of plural.", shown)
+
+    def test_why_shows_the_test_that_was_false_behind_a_limit(self):
+        terminal = self.begin("""externals ( stem ) routines ( r s )
+backwardmode (
+  define r as (
+    setlimit tomark 1 for ( [substring] )
+    among ( 's' ( not 'x' delete ) )
+  )
+  define s as (
+    setlimit tomark 1 for ( [substring] ) or true
+    among ( 's' ( 'x' delete ) )
+  )
+)
+define stem as backwards ( do r do s )
+""", "axs\nabs\n")
+        shown = terminal.enter("why axs").split("\n")
+        self.assertEqual(shown[:3], ["  r     among 1 takes 's'   my.sbl:5:13", "  r     not 'x' is false   my.sbl:5:19", "  stem  r is false"])
+        # (the among of s may fail before its commands)
+        self.assertNotIn("'x' is false", terminal.enter("why abs"))
 
     def test_families_are_remembered(self):
         terminal = self.begin()
@@ -126,7 +174,9 @@ class Sessions(Case):
             self.assertEqual(terminal.enter(line), "A report goes into a file by > FILE, as in: classes > my.classes. There are no pipes here.")
         self.assertEqual(terminal.enter("find >"), "no word and no stem has it")
         self.assertEqual(terminal.enter("classes > out"), "3 lines in out")
-        self.assertIn("is there already", terminal.enter("classes > out"))
+        there = "out is there already, and classes does not overwrite it. Nothing was written: name a new file, or delete that one first."
+        self.assertEqual(terminal.enter("classes > out"), there)
+        self.assertEqual(terminal.enter("stats > state"), "state cannot be written: it is a folder. Name a file in it.")
 
     def test_tab_completes(self):
         terminal = self.begin()

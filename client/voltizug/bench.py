@@ -1,6 +1,4 @@
-"""What a face asks: edits and what they change, places, files, and events when a file is saved. It holds the program, keeps no history of its
-own, and makes no sentence.
-"""
+"""What a face asks: edits and what they change, places, and files. It holds the program, keeps no history of its own, and makes no sentence."""
 import os
 import time
 from typing import Any, Callable, Dict, List, NamedTuple, Optional, Sequence, Set, Tuple
@@ -11,9 +9,8 @@ from .places import LARGEST, Places
 from .program import BROKEN, DONE, ENDED, USUAL_LIMIT, Moment, Program, Reply
 
 class Edit(NamedTuple):
-    """What an edit did: what differs from the mark now, and what it changed itself, if these may not be the same. `step` is what undo took back or
-    redo made again; `aside` are the names of the typed edits that a reload put aside, or nothing; `note` is a key of words.NOTES; `pairs` are the
-    figures of the families before and now."""
+    """What an edit did: what differs from the mark now, and what it changed itself, if that may differ. `step` is what undo or redo did; `aside` are
+    the names of the typed edits that a reload put aside; `note` is a key of words.NOTES; `pairs` are the figures of the families before and now."""
 
     command: str
     reply: Reply
@@ -244,8 +241,7 @@ class Bench(Stage):
     # Files
 
     def may_write(self, word: str, path: str) -> str:
-        """Returns a key of words.MAY_NOT if `save` or `approve` should not write to a file, or only if it is asked for again (with a ?), though
-        the program would."""
+        """Returns a key of words.MAY_NOT if the program would write to a file, but should not, or only if it is asked for again (with a ?)."""
         if is_same(path, self.script) and word == "save":
             is_refused = self.refused_text is not None and self.refused_text == read_file(self.script)
             return "refused?" if is_refused else "undone?" if self.is_older and self.script not in self.saved() else ""

@@ -35,10 +35,8 @@ LANGUAGE = [name for name in COMMANDS if name in RESERVED]
 # A blank at the end of these may belong to a word.
 WITH_TEXT = [name for name, command in COMMANDS.items() if command.takes in ("WORD", "TEXT", "STEM", "NAME [K [STRING")]
 # Reports: they can be written to a file by > FILE, and have a pager.
-REPORTING = (
-    "changes class classes counts events families find history integers largest lint script show stats stem stems".split()
-    + "tests trace unused uses why".split()
-)
+REPORTING = "changes class classes counts events families find history integers largest lint script show stats stem stems".split()
+REPORTING += "tests trace unused uses why".split()
 # How a comment and a declaration of a script begin.
 COMMENT, DECLARATION = r"\s*(//|/\*)", r"(%s)( |\Z)" % "|".join(word for word in ITEMS if word != "define")
 # By the beginning of a line that is no command what is said of it. {c} is its first word.
@@ -50,9 +48,10 @@ STRANGE: Sequence[Tuple[str, str]] = (
     (r"clear( |\Z)", "Ctrl-L clears the screen. quit or Ctrl-D ends."),
     (r"!|(ls|cd|cat|vi|vim|nano|emacs|grep|less|git|man|tail|head|wc|(\S*/)?snowbench)( |\Z)", "{c} is a command of a shell: use another window."),
     (r"edit( |\Z)", "Change the script in your editor, and save it; or type routine NAME, among NAME K or grouping NAME, and the new text."),
-    (r"watch( |\Z)", "quit, and start work --watch: then it reads each save by itself."),
+    (r"watch( |\Z)", "work --watch reads each save by itself. If this one does not, quit and start it so."),
     (r"warnings( |\Z)", "lint lists what may not be meant in the script and the words."),
     *((r"%s( |\Z)" % verb, "{c} is not a command here. In a shell: {called} {c} %s." % files) for verb, files in IN_SHELL.items()),
+    (r"(%s)\s*>" % "|".join(REPORTING), "A report goes into a file by > FILE, with blanks around the >, as in: classes > my.classes."),
     (COMMENT, "A comment begins with # at the beginning of the line. replace takes a whole script, up to a line with a single point."),
     (r"define( |\Z)", "A definition begins with define NAME as, or define NAME and the terms of a grouping, in one line."),
     (DECLARATION, "This looks like a script. replace takes a whole one, up to a line with a single point."),

@@ -1,6 +1,5 @@
-"""The tests of a run: which commands without a name that can signal f, as 'a', non-v or $p1 <= cursor, were true and which false. The commands are
-found by the tokens that the program tells. It tells the calls of routines, too: so it runs the word by a copy of the script in which each test is a
-routine of its own. If the copy does not do the same otherwise, nothing is told.
+"""The tests of a run: which commands without a name, as 'a', non-v or $p1 <= cursor, were true and which false. The program tells the calls of
+routines: so it runs the word by a copy of the script in which each test is a routine. If the copy does otherwise, nothing is told.
 """
 from collections import namedtuple
 from itertools import accumulate
@@ -50,14 +49,15 @@ class Routine:
         return self.tokens[self.at - 1].text
 
     def row(self, around: List[List[int]], is_back: bool) -> str:
-        """Reads commands with `or` and `and` between them."""
-        row = [self.at, self.at]
+        """Reads commands with `or` and `and` between them. Returns the first words; of a setlimit that has only a search, `substring`."""
+        row, self.searched = [self.at, self.at], ""
         self.command([*around, row], is_back)
+        is_search = self.tokens[row[0]].text == "setlimit" and self.searched == "s" and self.peek() not in ("or", "and")
         while self.peek() in ("or", "and"):
             self.at += 1
             self.command([*around, row], is_back)
         row[1] = self.at
-        return " ".join(token.text for token in self.tokens[row[0] : min(row[1], row[0] + 3)])
+        return "substring" if is_search else " ".join(token.text for token in self.tokens[row[0] : min(row[1], row[0] + 3)])
 
     def command(self, around: List[List[int]], is_back: bool) -> None:
         begin, is_name, word = self.at, self.tokens[self.at].kind in ("name", "literal"), self.take()
@@ -75,6 +75,7 @@ class Routine:
             found += "a" if row.startswith("among ") else "s" * (row in ("substring", "test substring"))
         self.at += 1
         self.pairs += found.count("sa")
+        self.searched = found
 
     def among(self, _: List[List[int]], is_back: bool) -> None:
         self.at += 1
@@ -171,8 +172,7 @@ class Copy:
 
 
 def agreed(events: Sequence[Any], kept: Sequence[Any]) -> int:
-    """Returns how many events of a run its copy has, too; 0 if the copy did otherwise. The copy may end before the run, since it takes more
-    steps, levels of calls and events."""
+    """Returns how many events of a run its copy has, too; 0 if it did otherwise. It may end before: it takes more steps, calls and events."""
     if not kept or list(kept) == list(events):
         return len(kept)
     body = [row for row in kept[:-1] if row.kind != "more"]

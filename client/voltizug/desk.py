@@ -1,6 +1,4 @@
-"""The bench at a terminal: the start, what is shown of replies, refusals and edits, and what is said if the program is gone. If a file has a fault at
-the start, `work` waits until its author has corrected it.
-"""
+"""The bench at a terminal: the start, which waits until no file has a fault, and what is shown of replies, edits and a program that is gone."""
 import os
 import re
 from typing import Any, Dict, List, Optional, Sequence

@@ -1,14 +1,12 @@
-"""What the program says about a fault, fitted to a window. The program counts a byte order mark as the first character of the first line; an
-editor does not. It does not name the file that has to be converted, nor say in words why a file cannot be read.
-"""
+"""What the program says about a fault, fitted to a window, with columns as an editor counts them, names of files, and advice."""
 import re
 from typing import List, NamedTuple, Optional, Sequence
 
 from .language import ITEMS
 from .layout import named, short
-from .near import meant
+from .near import meant, near
 from .places import BOM
-from .words import in_shell, unreadable
+from .words import converting, in_shell, unreadable
 
 INDENT = "    "
 # What follows the name of a file: line, column and sentence.
@@ -49,8 +47,12 @@ def shown(said: Sequence[str], script: str, text: Optional[bytes], width: int) -
             lines[i] += ". A literal with {..} needs stringescapes {} above it"
         elif re.search(r"\w can only be in a literal", line) and lines[i + 1].count("'") % 2:
             lines[i] += ". Look for a missing quote before it, too"
-        elif " => is of Snowball" in line:
+        elif " => is of Snowball" in line and re.search(r"\$\s*\w+\s*=>", lines[i + 1]):
             lines[i] += ". Did you mean >=?"
+        elif line.endswith(" the name that is inserted here") and "^" in "".join(lines[i + 2 : i + 3]):
+            name = lines[i + 1][lines[i + 2].index("^") + 1 :].partition("}")[0]
+            names = re.findall(r"\bstringdef\s+(\S+)", (text or b"").decode("utf-8", "replace"))
+            lines[i] += ". A } is missing, perhaps" if " " in name else "." * bool(near(name, names)) + meant(name, names)
         elif " can only be in a literal" in line and word not in ITEMS and meant(word, ITEMS):
             lines[i] += "." + meant(word, ITEMS)
     if (text or b"").startswith(BOM):
@@ -68,7 +70,9 @@ def with_file(line: str, script: str) -> str:
     fault = CANNOT_BE_READ.fullmatch(line)
     if fault:
         return "snowbench: %s cannot be read: %s" % (fault[1], unreadable(fault[1]))
-    name = in_shell(script)
+    name, (before, guess, _) = in_shell(script), line.partition("If it is ")
+    if guess and line.endswith(" OLD > NEW"):
+        return before + converting(script)
     return line.replace("OLD > NEW", "%s > NEW. Then, if NEW is right: mv NEW %s" % (name, name)) if line.endswith(" OLD > NEW") else line
 
 

@@ -1,6 +1,4 @@
-"""What is kept beside the script: the history of lines, and for each `work` that runs a folder with the text in force. If `work` does not
-end by itself, the next one over the same script finds the edits there that were typed and that no file has.
-"""
+"""What is kept beside the script: the history of lines, and for each `work` a folder with what was typed, in case that it does not end by itself."""
 import contextlib
 import fcntl
 import os

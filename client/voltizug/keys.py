@@ -1,6 +1,5 @@
-"""Line editing by readline, and which keys are signals. Files are looked at by a signal of a timer. CPython runs handlers of signals while
-readline waits for a key, so a handler can clear the line that is being typed, show what changed, and have readline draw the line again.
-`readline.redisplay` does not suffice for this: readline believes that the line is still on the screen. What does is reached by ctypes.
+"""Line editing by readline, and which keys are signals. Files are looked at by a signal of a timer, whose handler CPython runs while readline waits
+for a key. It clears the line, shows what changed, and draws the line again: by ctypes, since `readline.redisplay` believes that it is still there.
 """
 import contextlib
 import ctypes
@@ -35,8 +34,7 @@ class Hangup(BaseException):
 
 
 def loaded_readline() -> Any:
-    """Returns the library that the module readline has loaded, with its state and its editing mode; nothing if it lacks what that module does not
-    offer (libedit): then a save waits for the next line."""
+    """Returns readline's library, with its state and its editing mode; nothing if it is libedit: then a save waits for the next line."""
     try:
         library: Any = ctypes.CDLL(readline.__file__)
         for name in ("rl_clear_visible_line", "rl_on_new_line", "rl_forced_update_display", "rl_prep_terminal", "rl_deprep_terminal"):
@@ -66,9 +64,8 @@ def with_interrupt(settings: List[Any], character: bytes) -> List[Any]:
 
 
 class Editor:
-    """Reads lines at the terminal. It alone knows whether readline waits for a key. While a line is typed Ctrl-C is a key and no signal: CPython
-    looks for signals only when one breaks its wait for a key off, so one that comes between two keys would drop a later line. While a command
-    runs it is a signal, and no key is shown."""
+    """Reads lines at the terminal. It alone knows whether readline waits for a key. While a line is typed Ctrl-C is a key: as a signal between two
+    keys it would be heard by CPython only later, and drop a later line. While a command runs it is a signal, and no key is shown."""
 
     def __init__(self, history: str, complete: Callable[[str, str], List[str]], saved: Optional[Callable[[], Any]], show_saved: Callable[[], None]):
         self.library, self.history, self.complete_text, self.saved, self.show_saved = loaded_readline(), history, complete, saved, show_saved
@@ -192,8 +189,7 @@ class Editor:
         return line
 
     def drop_pasted(self) -> int:
-        """Drops the lines that came together with one that was refused; returns how many. Some terminals do not tell a paste: of what they
-        have sent, all up to a line with a single point is dropped."""
+        """Drops the lines that came with a refused one; returns how many. If the terminal tells no paste, all up to a single point is dropped."""
         rest = b""
         while not POINT.search(b"\n" + rest) and select.select([0], [], [], PAUSE)[0]:
             read = os.read(0, 1)

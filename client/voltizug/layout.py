@@ -38,8 +38,7 @@ def padded(text: str, column: int) -> str:
 
 
 def broken(line: str, width: int) -> List[str]:
-    """Returns a line as lines that fit: broken at blanks and commas, but not in a number. From the second on they are indented, below a
-    text that follows a label."""
+    """Returns a line as lines that fit: broken at blanks and commas, but not in a number; the others are indented, or below what follows a label."""
     if columns(line) <= width:
         return [line]
     label = LABEL.match(line)
@@ -158,14 +157,11 @@ def percent(part: int, whole: int) -> str:
 
 def families_line(pairs: Tuple[Any, ...]) -> str:
     """Returns the figures of the families before and after an edit."""
-    if not pairs:
-        return ""
-    before, now = pairs
     parts = []
-    for what, part, whole in (("understemmed", "apart", "within"), ("overstemmed", "joined", "across")):
-        old, new, all_ = int(getattr(before, part)), int(getattr(now, part)), int(getattr(now, whole))
+    for what, part, whole in (("understemmed", "apart", "within"), ("overstemmed", "joined", "across")) if pairs else ():
+        old, new, all_ = int(getattr(pairs[0], part)), int(getattr(pairs[1], part)), int(getattr(pairs[1], whole))
         parts.append("%s %s{:,} of {:,} pairs%s".format(new, all_) % (what, "" if old == new else "{:,} -> ".format(old), percent(new, all_)))
-    return "families: " + ", ".join(parts)
+    return "families: " + ", ".join(parts) if parts else ""
 
 
 def coloured(line: str) -> str:

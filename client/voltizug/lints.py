@@ -24,13 +24,12 @@ TAKING = ("delete", "<-", "->")
 
 
 def lints(bench: Bench, has_all: bool = False) -> List[str]:
-    """Returns lines on the current text. All has letters beyond ASCII in literals, too, of which other compilers warn; and of many words only
-    that looks at each."""
+    """Returns lines on the current text. All has letters beyond ASCII in literals, too; and of many words only that looks at each."""
     if len(bench.program.now.text) > LARGEST:
         return ["%s has more than {:,} bytes, and is not looked at".format(LARGEST) % named(bench.script)] if has_all else []
     places, outcomes = bench.places(), bench.outcomes() if has_all or bench.size <= MANY else []
     tokens = [token for token in places.tokens if token.kind != "comment"]
-    found = [*misused(tokens), *sure_alternatives(tokens), *unset_slices(places), *bare_routines(places, tokens), *plain_braces(tokens)]
+    found = [*misused(tokens), *unset_slices(places), *bare_commands(places, tokens), *plain_braces(tokens)]
     found += strange_strings(places, outcomes, tokens) if has_all or bench.size >= FEW else []
     beyond = [token for token in tokens if has_all and token.kind == "literal" and not token.text.isascii()]
     others = " (and {})".format(counted(len(beyond) - 1, "more literal")) if len(beyond) > 1 else ""
@@ -43,46 +42,41 @@ def lints(bench: Bench, has_all: bool = False) -> List[str]:
 
 
 def misused(tokens: Sequence[Token]) -> Iterable[Tuple[int, str]]:
-    """An empty slice before what takes it, `$x = cursor`, a group of only a literal beside one with `<-`, and an integer that may stay 0."""
+    """An empty slice, a limit for `[`, `$x = cursor`, a group of only a literal beside one with `<-`, an integer that may stay 0, `do X or`."""
     texts, kinds = [token.text for token in tokens] + [""] * 7, [token.kind for token in tokens] + [""] * 7
     values = {(texts[i + 1], texts[i + 2]) for i, text in enumerate(texts) if text == "$"}
     for i, token in enumerate(tokens):
         after = texts[i + 2 + (kinds[i + 2] == "name")]
         if texts[i : i + 2] == ["[", "]"] and after in EMPTY:
             yield token.start, "the slice is empty here: " + EMPTY[after]
+        elif texts[i : i + 3] == ["for", "[", "substring"]:
+            yield token.start, "the limit is for [ alone, and substring has none: for ( [substring] ) is meant, perhaps"
         elif token.text == "$" and texts[i + 2 : i + 4] == ["=", "cursor"] and texts[i + 4] not in "+-*/":
             yield token.start, "${0} = cursor sets {0} and never fails: == or <= is meant, perhaps".format(short(texts[i + 1]))
         elif kinds[i] == kinds[i + 2] == "literal" and texts[i + 1 : i + 4 : 2] == ["(", ")"] and "<-" in (texts[i - 3], texts[i + 6]):
             yield tokens[i + 2].start, "({0}) only tests whether {0} is there: (<- {0}) is meant, perhaps".format(short(texts[i + 2]))
         elif token.text == "setmark" and (texts[i + 1], "=") not in values and any((texts[i + 1], sign) in values for sign in ("<", "<=", ">", ">=")):
             yield token.start, "{0} is 0 in the run of a word that does not come here: ${0} = limit before it is meant, perhaps".format(texts[i + 1])
+        elif token.text in SURE and texts[i - 1] not in NOT_SURE and texts[i + 1] and texts[end_of(tokens, i + 1)] == "or":
+            what = "{0} never fails, so what is after this or never runs: {0} ( .. or .. ) is meant, perhaps"
+            yield token.start, what.format(token.text)
 
 
-def bare_routines(places: Places, tokens: Sequence[Token]) -> Iterable[Tuple[int, str]]:
-    """A routine that changes the text and may fail, without `do` and before something else in an external: if it fails, nothing after it runs."""
+def bare_commands(places: Places, tokens: Sequence[Token]) -> Iterable[Tuple[int, str]]:
+    """A routine that changes the text and may fail, or ( .. or such a routine ), without `do` and before something else in an external."""
     parts = {name: places.part(name)[3:] for name in places.of_kind("routine")}
     declared = takewhile(lambda token: token.text != ")", dropwhile(lambda token: token.text != "externals", tokens))
-    texts = {name: [token.text for token in part] for name, part in parts.items()}
+    texts = {name: [token.text for token in part] + [""] for name, part in parts.items()}
     doubtful = [name for name, part in texts.items() if not set(part).isdisjoint(TAKING[:2]) and set(part[:2]).isdisjoint(SURE)]
-    for name, part in [(token.text, parts[token.text]) for token in declared if token.text in parts]:
-        plain, before = [True], "as"  # type: List[bool], str
-        for token, after in zip(part, part[1:]):
-            if token.text == "(":
-                plain.append(plain[-1] and before in ("as", "backwards"))
-            elif token.text == ")":
-                plain.pop()
-            elif plain[-1] and token.text in doubtful and before not in GOVERNING and not before.isdigit() and after.text not in ("or", "and", ")"):
-                yield token.start, "if {0} fails, nothing after it in {1} runs: do {0} is meant, perhaps".format(token.text, name)
-            before = token.text
-
-
-def sure_alternatives(tokens: Sequence[Token]) -> Iterable[Tuple[int, str]]:
-    """What is after `or` never runs if `do X` is before it. X is a name, a literal or a bracket."""
-    what = "{0} never fails, so what is after this or never runs: {0} ( .. or .. ) is meant, perhaps"
-    for at, token in enumerate(tokens[:-1]):
-        is_sure = token.kind == "word" and token.text in SURE and not (at and tokens[at - 1].text in NOT_SURE)
-        if is_sure and [other.text for other in tokens[end_of(tokens, at + 1) :][:1]] == ["or"]:
-            yield token.start, what.format(token.text)
+    what = "if {0} fails, nothing after it in {1} runs: do {0} is meant, perhaps"
+    for name in [token.text for token in declared if token.text in parts]:
+        part, before, i = texts[name], "as", 0
+        while i < len(part) - 1:
+            end = i if part[i] != "(" else i if before in ("as", "backwards") else end_of(parts[name], i) - 1
+            is_doubtful = part[end] in doubtful or i < end and part[end - 2] == "or" and part[end - 1] in doubtful
+            if is_doubtful and before not in GOVERNING and not before.isdigit() and part[end + 1] not in ("or", "and", ")", ""):
+                yield parts[name][i].start, what.format("( .. )" if i < end else part[i], name)
+            before, i = part[end], end + 1
 
 
 def plain_braces(tokens: Sequence[Token]) -> Iterable[Tuple[int, str]]:
@@ -97,9 +91,8 @@ def unset_slices(places: Places) -> Iterable[Tuple[int, str]]:
     parts = {name: places.part(name)[2:] for name in places.of_kind("routine")}
     calls = {name: {token.text for token in part}.intersection(parts) for name, part in parts.items()}
     callers: Dict[str, Set[str]] = {name: set() for name in parts}
-    for name, others in calls.items():
-        for other in others:
-            callers[other].add(name)
+    for name, other in [(name, other) for name, others in calls.items() for other in others]:
+        callers[other].add(name)
     having = {sign: [name for name, part in parts.items() if any(token.text == sign for token in part)] for sign in "[]"}
     there = {sign: reached(having[sign], calls) | reached(having[sign], callers) for sign in "[]"}
     for name, part in parts.items():
@@ -130,8 +123,7 @@ def end_of(tokens: Sequence[Token], at: int) -> int:
 
 
 def strange_strings(places: Places, outcomes: Sequence[Outcome], tokens: Sequence[Token]) -> Iterable[Tuple[int, str]]:
-    """The strings of amongs that have a letter which no word has and no command puts in. (Macros hide what is put in: if a literal that is put
-    in may have one, no string is looked at.)"""
+    """The strings of amongs with a letter that no word has and no command puts in. (If what is put in may have macros, none is looked at.)"""
     put = "".join(token.text for before, token in zip(tokens, tokens[1:]) if token.kind == "literal" and before.text in PUTTING)
     if not outcomes or set(put) & set("".join(token.text for token in tokens if token.kind == "inserts")):
         return
@@ -145,7 +137,7 @@ def strange_strings(places: Places, outcomes: Sequence[Outcome], tokens: Sequenc
 def strange_words(places: Places, outcomes: Sequence[Outcome], tokens: Sequence[Token]) -> List[str]:
     """Words with capitals or signs that no string has, these if they are many, and words with the empty stem."""
     strings = [string for _, _, string in places.entries]
-    signs = set("".join(token.text for token in tokens if token.kind == "literal"))
+    signs = set("".join(re.sub("{[^}]*}", "", token.text) for token in tokens if token.kind == "literal"))
     large = [row.word for row in outcomes if row.word != row.word.lower()] if strings and all(string == string.lower() for string in strings) else []
     signed = [row.word for row in outcomes if not row.word.isalpha() and any(unicodedata.category(c)[0] in "PS" for c in set(row.word) - signs)]
     empty = [row.word for row in outcomes if (row.kind, row.stem) == ("stem", "")]

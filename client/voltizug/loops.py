@@ -13,8 +13,7 @@ LONGEST, SURE = 400, 100
 
 
 class Turn(NamedTuple):
-    """What goes round: the routine of the command that does, or the routines that call each other; what it calls or does each time; how
-    often at least, 0 if that is not known."""
+    """What goes round: the routine of the command that does, or those that call each other; what it does each time; how often at least, or 0."""
 
     names: Tuple[str, ...]
     is_call: bool

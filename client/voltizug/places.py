@@ -74,7 +74,8 @@ class Places:
 
     def spots(self, name: str, words: Sequence[str]) -> List[str]:
         """Returns where a definition has these words, at most four of them."""
-        return ["the %s of %s" % (token.text, self.at(name, token.start)) for token in self.part(name) if token.text in words][:4]
+        part, typed = self.part(name), "not in %s: " % self.script
+        return ["the %s of %s" % (token.text, self.at(name, token.start).removeprefix(typed)) for token in part if token.text in words][:4]
 
 
 def readable(text: bytes) -> str:

@@ -1,6 +1,4 @@
-"""One process of `work`: requests with a mark after each, both pipes read, time-outs, breaking off, and a new start with the current script.
-No sentence is made here, and nothing is laid out.
-"""
+"""One process of `work`: requests with a mark after each, both pipes read, time-outs, breaking off, and a new start with the current script."""
 import contextlib
 import os
 import re
@@ -36,8 +34,7 @@ class Reply(NamedTuple):
 
 
 class Moment(NamedTuple):
-    """What a new start brings back: a text, a limit, the commands that added and removed words since WORDS was read, and a file of stems that
-    is the mark."""
+    """What a new start brings back: a text, a limit, the commands that changed the words since WORDS was read, and a file of stems, the mark."""
 
     text: bytes = b""
     limit: str = USUAL_LIMIT
@@ -120,8 +117,7 @@ class Program:
         return self.ask_each([lines], patience)[0]
 
     def ask_each(self, requests: Sequence[Sequence[str]], patience: Optional[float] = None, is_deaf: bool = False) -> List[Reply]:
-        """Sends requests at once and returns the reply of each. If it has to end early, the program is gone, and the last replies say why.
-        A deaf one is not broken off."""
+        """Sends requests at once and returns the reply of each. If the program is gone, the last ones say why. Nothing breaks a deaf one off."""
         if self.process is None or not requests:
             return [Reply(ENDED, [], [])] * len(requests)
         if any(len(encoded(line)) > LONGEST for lines in requests for line in lines):

@@ -106,8 +106,7 @@ def tests(events: Sequence[Any], places: Places) -> List[str]:
 
 
 class Call:
-    """A call: whether it has searched no among and changed no text so far, whether it took a string or changed the text, and the test that came
-    last, if nothing came after it."""
+    """A call: whether it has searched no among and changed no text, whether it took a string or changed the text; the test before now, if any."""
 
     def __init__(self, name: str):
         self.name, self.asks_only, self.acts, self.test = name, True, False, None  # type: str, bool, bool, Any

@@ -33,8 +33,7 @@ class Screen:
         return [part for line in lines for part in (layout.broken(layout.named(line), width) if " > NEW" not in line else [layout.named(line)])]
 
     def write(self, lines: Sequence[str], is_report: bool = False, is_text: bool = False, last: int = 0) -> None:
-        """Writes lines; those of a text are an author's, and are not broken. A report may go to the pager, and after it come so many of its last
-        lines, which are figures; if Ctrl-C ends it, that is said."""
+        """Writes lines; those of a text are not broken. A report may go to the pager; so many figures at its end come after that."""
         shown = list(map(layout.named, lines)) if is_text else self.broken(lines)
         figures = self.broken(lines[len(lines) - last :])
         is_paged = is_report and self.has_pager and not self.editor.is_above and len(shown) >= self.size().lines
@@ -68,12 +67,9 @@ class Screen:
         return True
 
 
-def to_file(path: str, lines: Sequence[str]) -> str:
-    """Writes a report to a new file; returns the sentence on it."""
-    try:
-        with open(path, "x", encoding="utf-8", errors="surrogateescape") as file:
-            file.write("".join(line + "\n" for line in lines))
-    except OSError as why:
-        there = "is there already, and is not overwritten. Nothing was written: name a new file."
-        return "%s %s" % (layout.short(path), there if isinstance(why, FileExistsError) else "cannot be written: %s." % why.strerror)
-    return "%s in %s" % (layout.counted(len(lines), "line"), layout.short(path))
+def to_file(path: str, lines: Sequence[str]) -> bool:
+    """Writes a report to a new file; returns whether it did."""
+    with contextlib.suppress(OSError), open(path, "x", encoding="utf-8", errors="surrogateescape") as file:
+        file.write("".join(line + "\n" for line in lines))
+        return True
+    return False

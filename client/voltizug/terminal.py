@@ -94,7 +94,8 @@ class Terminal(Desk):
         else:
             shown = [] if reply.lines == ["ok"] else reports.laid_out(command, reply.lines, self.bench.places)
         if path:
-            self.screen.say(screen.to_file(os.path.expanduser(path), shown))
+            path, said = os.path.expanduser(path), counted(len(shown), "line") + " in "
+            self.screen.say(said + short(path) if screen.to_file(path, shown) else words.not_written(command, path, self.bench))
         else:
             self.screen.write(shown, is_report=command in REPORTING, is_text=command in TEXTS, last=FIGURES.get(command, 0))
 
@@ -108,7 +109,8 @@ class Terminal(Desk):
         return ["%s is added: %s" % (words.in_quotes(word, " " in word), layout.outcome(*last[:2]))]
 
     def reply_remove(self, word: str, _: Sequence[str]) -> List[str]:
-        return [short(word) + " is removed."]
+        is_kept = encoded(word) in kept.read_lines(self.bench.words)
+        return [short(word) + (" is removed, but %s still has it." % short(self.bench.words or "") if is_kept else " is removed.")]
 
     def reply_mark(self, path: str, _: Sequence[str]) -> List[str]:
         figures, changed = layout.figures(self.bench.changes), sum(row.kind == "changed" for row in self.bench.changes)
@@ -212,21 +214,24 @@ class Terminal(Desk):
     def do_append(self, path: str) -> None:
         path = path.strip() or self.bench.words or ""
         before = len(kept.read_lines(path))
-        if self.is_done(self.bench.ask("append " + path if path != self.bench.words else "append"), "append " + path):
+        if path and path == self.bench.words and not os.path.lexists(path):
+            self.screen.say(words.may_not("gone", "append", path))
+        elif self.is_done(self.bench.ask("append " + path if path != self.bench.words else "append"), "append " + path):
             self.screen.say("%s now at the end of %s." % (counted(len(kept.read_lines(path)) - before, "word is", "words are"), short(path)))
 
     def do_words(self, _: str) -> None:
-        added, before = self.bench.added, self.bench.by_word()
-        if self.is_done(self.bench.ask("words"), "words"):
+        before, doubt = self.bench.by_word(), self.unkept_words(", words again drops {}") if self.bench.words else ""
+        if doubt and self.doubted != "words":
+            self.doubted = "words"
+            self.screen.say(doubt)
+        elif self.is_done(self.bench.ask("words"), "words"):
             self.has_old_words = False
             self.warn(self.bench.words)
             now = self.bench.by_word()
-            gone = [word for word in added if word not in now]
-            them, size = "it" if len(gone) == 1 else "them", "{:,} words".format(len(now))
-            removed = [word for word in before if word not in now and word not in gone]
-            for what, found in (("added", [word for word in now if word not in before]), ("removed", removed)):
+            size = counted(len(now), "word")
+            for what, found in (("added", [word for word in now if word not in before]), ("removed", [word for word in before if word not in now])):
                 size += "; {:,} {}: {}".format(len(found), what, in_words(found, "and", 5)) if found else ""
-            self.screen.say(size, "Gone, since the file lacks %s: %s." % (them, in_words(gone, "and", 5)) if gone else "")
+            self.screen.say(size)
 
     def do_rescue(self, what: str) -> None:
         left, before = self.bench.kept.left(), self.bench.by_word()

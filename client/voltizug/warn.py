@@ -1,7 +1,7 @@
 """Warnings about the files of `work`: at most one line for each kind of thing that the author may not have meant."""
 import re
 import unicodedata
-from typing import Any, Callable, List, Optional, Sequence, Tuple
+from typing import Any, Callable, List, Optional, Sequence, Set, Tuple
 
 from .kept import read_file
 from .layout import named
@@ -9,34 +9,28 @@ from .places import BOM
 from .program import LONGEST, encoded
 from .words import converting, in_shell
 
-# What a line may have, and what is said of it. {file} is the file's name as a shell has it, {latin1} a command that converts it.
+# What a line may have, and what is said of it. {file} is the file's name as a shell has it, {converting} how it becomes UTF-8.
 Kind = Tuple[Callable[[str], Any], str, str]
-
-
-def is_overlong(text: str) -> bool:
-    return len(encoded(text)) > LONGEST
-
-
-def has(pattern: str) -> Callable[[str], Any]:
-    return re.compile(pattern, re.M).search
-
-
-NOT_UTF8: Kind = (has("[\udc80-\udcff]"), "not UTF-8", ". If it is Latin-1: {latin1}")
+NOT_UTF8: Kind = (re.compile("[\udc80-\udcff]").search, "not UTF-8", ". {converting}")
 DECOMPOSED: Kind = (
     lambda text: not text.isascii() and len(unicodedata.normalize("NFC", text)) < len(text), "a letter and its accent are two characters (NFD)",
     ", and one character (NFC) does not match them. To compose them: uconv -x any-nfc {file} > NEW",
 )
-LONG_LINE: Kind = (is_overlong, "more than 65,536 bytes", ". run, check, filter and session refuse such a line (72 LineTooLong). Break it")
-LONG_WORD: Kind = (is_overlong, "more than 65,536 bytes, which no line may have", ". Write one word on each line")
+IS_LONG: Callable[[str], Any] = lambda text: len(encoded(text)) > LONGEST
+LONG_LINE: Kind = (IS_LONG, "more than 65,536 bytes", ". run, check, filter and session refuse such a line (72 LineTooLong). Break it")
+LONG_WORD: Kind = (IS_LONG, "more than 65,536 bytes, which no line may have", ". Write one word on each line")
 OF_WORDS: Sequence[Kind] = (
     (
-        has(r"^[^\S\n]|[^\S\n]$"), "a blank at an end of the word, which belongs to it",
+        re.compile(r"^[^\S\n]|[^\S\n]$", re.M).search, "a blank at an end of the word, which belongs to it",
         ". To take them away: sed -i 's/^[ \\t]*//; s/[ \\t]*$//' {file}",
     ),
-    (lambda text: " " in text.strip(), "a blank inside the word, which belongs to it", ". A line is one word"),
-    (lambda text: "\t" in text.strip(), "a tab inside the word, which belongs to it", ". If this is a table: cut -f1 {file} > NEW"),
-    (has(r"^\.$"), "a single point. In a session it ends the list; here it is a word", ""),
-    (has(r"^.{256}"), "more than 255 characters, which no word may have", ""),
+    (re.compile(r"^\.$", re.M).search, "a single point. In a session it ends the list; here it is a word", ""),
+    (re.compile(r"^.{256}", re.M).search, "more than 255 characters, which no word may have", ""),
+)
+# By a sign between words what is said of it, and how a column of a table is taken.
+BETWEEN = (
+    (" ", "a blank inside", "awk '{{print $%d}}'"), ("\t", "a tab inside", "cut -f%d"),
+    (",", "a comma in", "cut -d, -f%d"), (";", "a semicolon in", "cut -d';' -f%d"),
 )
 
 
@@ -45,8 +39,23 @@ def on_lines(name: str, path: str, text: str, kind: Kind) -> List[str]:
     condition, what, then = kind
     found = [number for number, line in enumerate(text.split("\n"), 1) if condition(line)] if condition(text) else []
     others = " (and {:,} more {})".format(len(found) - 1, "line" if len(found) == 2 else "lines") if len(found) > 1 else ""
-    then = then.format(file=in_shell(path), latin1=converting("latin1", path))
-    return ["%s:%d: %s%s%s" % (name, found[0], what, others, then)] if found else []
+    return ["%s:%d: %s%s%s" % (name, found[0], what, others, then.format(file=in_shell(path), converting=converting(path)))] if found else []
+
+
+def on_several(name: str, path: str, text: str) -> List[str]:
+    """Returns the warnings on lines with several words, as in a table, and on words that are there already."""
+    lines, said, there = [line.strip() for line in text.split("\n")], [], set()  # type: List[str], List[str], Set[str]
+    for sign, what, command in BETWEEN:
+        rows = [line.split(sign.strip(" ") or None) for line in lines if sign in line]
+        words, is_most = [sum(not re.search("[0-9]", cell) for cell in set(cells)) for cells in zip(*rows[:1000])], 2 * len(rows) > len(lines)
+        then = ". If this is a table: %s {file} > NEW" % command % (words.index(max(words)) + 1 if words else 1)
+        if sign == " " and not (is_most and len(rows) > 1 and 0 in words):
+            then = ". A line is one word" + ". If this is running text: tr -s ' ' '\\n' < {file} > NEW" * is_most
+        if is_most or sign in " \t":
+            said += on_lines(name, path, text, (lambda line: sign in line.strip(), what + " the word, which belongs to it", then))
+    again = ". It counts once, and approve writes one stem for it. To take repeats away: awk '!there[$0]++' {file} > NEW"
+    is_there = lambda line: "\n" in line or line and (line in there or there.add(line))  # noqa: E731
+    return said + on_lines(name, path, text, (is_there, "a word that is there already", again))
 
 
 def on_whole(path: str, data: bytes) -> List[str]:
@@ -54,8 +63,8 @@ def on_whole(path: str, data: bytes) -> List[str]:
     name, quoted = named(path), in_shell(path)
     if data.startswith(b"\x1f\x8b"):
         return ["%s: compressed by gzip. To unpack it: gzip -d < %s > NEW" % (name, quoted)]
-    if data.startswith((b"\xff\xfe", b"\xfe\xff")):
-        return ["%s: UTF-16. To make it UTF-8: %s" % (name, converting("utf-16", path))]
+    if " -f utf-" in converting(path):
+        return ["%s: not UTF-8. %s" % (name, converting(path))]
     is_one = b"\r" in data[:-1] and b"\n" not in data
     return ["%s: no line feed, so all of it is one line. To make each carriage return one: tr '\\r' '\\n' < %s > NEW" % (name, quoted)] * is_one
 
@@ -74,7 +83,7 @@ def on_file(path: str, is_list: bool) -> List[str]:
         return said
     if re.search(r"\bexternals\s*\(", text):
         return [*said, name + ": this looks like a script, and each of its lines is a word here"]
-    said += [line for kind in OF_WORDS for line in on_lines(name, path, text, kind)]
+    said += [line for kind in OF_WORDS for line in on_lines(name, path, text, kind)] + on_several(name, path, text)
     return said + [name + ": no words. Write one word on each line; add WORD adds one"] * (not text.strip("\n"))
 
 

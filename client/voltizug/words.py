@@ -7,12 +7,12 @@ import tempfile
 from typing import Callable, Dict, Sequence
 
 from .bench import Bench, Stage
-from .commands import COMMANDS, NAMED, OPEN_BLOCKS, STRANGE
-from .kept import is_same, read_lines
+from .commands import COMMANDS, NAMED, OPEN_BLOCKS, REPORTING, STRANGE
+from .kept import is_same, read_file, read_lines
 from .layout import counted, in_words, named, short
 from .near import folded, meant, near
 from .options import CALLED
-from .program import Reply
+from .program import Reply, encoded
 
 # By the number of a refusal its sentence. {c} is the command, {a} what follows it, {path} its file.
 SENTENCES: Dict[int, str] = {
@@ -31,7 +31,6 @@ SENTENCES: Dict[int, str] = {
     68: "It was broken off. Nothing changed.",
     69: "There are no added words that no file has.",
     72: "A line may have 65,536 bytes at most. Nothing was done.",
-    75: "{path} is not UTF-8. If it is Latin-1: {latin1}",
 }
 # Why `save`, `approve` or `append` does not write to a file. {other} is what to do, {new} the same with a new file.
 MAY_NOT: Dict[str, str] = {
@@ -43,7 +42,7 @@ MAY_NOT: Dict[str, str] = {
     "refused?": "{path} has a text that was refused. Nothing was written: correct it there{then}, or save {path} again overwrites it.",
     "undone?": "{path} has a change that undo took back. Nothing was written: Enter reads it again, save {path} again overwrites it.",
     "no words": "{path} is there already, and append puts words only into the file of words or a new file.",
-    "gone": "{path} is not there any more, and was not written: save to another file.",
+    "gone": "{path} is not there any more, and was not written: {other}.",
     "no folder": "{path} cannot be written: there is no folder {folder}.",
     "folder": "{path} cannot be written: it is a folder. Name a file in it.",
     "closed": "{path} cannot be written: you may not write there. {Other}.",
@@ -89,7 +88,7 @@ def refused(code: int, line: str, bench: Stage) -> str:
         return SPECIAL[code](line, bench)
     path, (name, k, string) = file_of(line, bench), [*argument.split(" ", 2), "", ""][:3]
     said = SENTENCES.get(code, "Nothing changed.")
-    return said.format(c=command, a=short(argument), k=k, string=short(string), name=short(name), path=short(path), latin1=converting("latin1", path))
+    return said.format(c=command, a=short(argument), k=k, string=short(string), name=short(name), path=short(path))
 
 
 def file_of(line: str, bench: Stage) -> str:
@@ -181,8 +180,9 @@ def unknown(line: str, bench: Stage) -> str:
         return strange.format(c=command, called=named(CALLED))
     if command in ("among", "uses"):
         known = " " + amongs_of(line, bench) if bench.places().kind(argument.partition(" ")[0]) == "routine" else ""
-        what = "and a number: among NAME K, then an among, then a line with a single point."
-        return "%s needs a name%s%s" % (command, ": %s." % COMMANDS["uses"].usage if command == "uses" else " " + what, known)
+        lacks = "a number" if known else "a name and a number" if command == "among" else "a name"
+        usage = "among NAME K, then an among, then a line with a single point" if command == "among" else COMMANDS["uses"].usage
+        return "%s needs %s: %s.%s" % (command, lacks, usage, known)
     if command in COMMANDS:
         other = {"classes": "class WORD", "stems": "find TEXT", "counts": "uses NAME", "script": "show NAME"}.get(command, "")
         said = "%s takes nothing after it." % command + " For a part of it: %s." % other * bool(other)
@@ -219,7 +219,8 @@ def not_written(command: str, path: str, bench: Stage) -> str:
         (command != "append" and is_list, "words"), (command != "save" and is_script, "script"),
         (command == "append" and is_there and not is_list, "no words"),
         (os.path.realpath(path) == os.path.realpath(bench.script) and not os.path.lexists(path), "gone"),
-        (not os.path.isdir(folder), "no folder"), (os.path.isdir(path), "folder"), (not os.access(path if is_there else folder, os.W_OK), "closed"),
+        (not os.path.isdir(folder), "no folder"), (os.path.isdir(path), "folder"),
+        (command in REPORTING and is_there, "there"), (not os.access(path if is_there else folder, os.W_OK), "closed"),
         (path in bench.saved() or is_script, "changed"), (is_there, "full, there"), (True, "full"),
     ) if is_so), command, path)
 
@@ -254,9 +255,18 @@ def in_shell(path: str) -> str:
     return named(shlex.quote("./" + path if path.startswith("-") else path))
 
 
-def converting(code: str, path: str) -> str:
-    name = in_shell(path)
-    return "iconv -f %s -t utf-8 %s > NEW. Then, if NEW is right: mv NEW %s" % (code, name, name)
+def converting(path: str) -> str:
+    """Returns how a file that is not UTF-8 becomes it, by its bytes."""
+    data, name = read_file(path) or b"", in_shell(path)
+    # (in Cyrillic and Greek such letters come one after another, and some of other encodings are signs in Latin-1)
+    runs = re.findall("[\udc80-\udcff]+", data.decode("utf-8", "surrogateescape"))
+    beyond, mark = encoded("".join(runs)).decode("latin1"), re.match(b"(\xff\xfe\0\0|\0\0\xfe\xff)|\xff\xfe|\xfe\xff", data)
+    is_latin = beyond.isalpha() and len(beyond) < 2 * len(runs)
+    code, what = ("latin1", "it is Latin-1") if is_latin else ("ENCODING", "its encoding is ENCODING, such as cp1250 or koi8-r")
+    if mark or 4 * data.count(0) > len(data):
+        code = ("utf-32" if mark[1] else "utf-16") if mark else "utf-16le" if data[::2].count(0) < data[1::2].count(0) else "utf-16be"
+        what = "it is " + code.upper()
+    return "If %s: iconv -f %s -t utf-8 %s > NEW. Then, if NEW is right: mv NEW %s" % (what, code, name, name)
 
 
 def early(line: str, bench: Bench) -> str:
@@ -280,5 +290,6 @@ def may_not(why: str, command: str, path: str, then: str = "") -> str:
 # By the number of a refusal what makes its sentence of the line and the bench.
 SPECIAL: Dict[int, Callable[[str, Stage], str]] = {
     54: lambda _, bench: SENTENCES[54] + " remove WORD takes an added word out." * bool(getattr(bench, "added", [])),
+    75: lambda line, bench: "%s is not UTF-8. %s" % (short(file_of(line, bench)), converting(file_of(line, bench))),
     41: absent, 45: no_name, 46: amongs_of, 52: unknown, 53: no_name, 57: bad_file, 59: no_class, 67: no_stem, 74: other_lines,
 }

@@ -6,14 +6,13 @@ ghost use Rattle.sbl_bench.specs.Contents.{Contents, opening_contents};
 ghost use Rattle.sbl_bench.specs.Vocabulary.{vocabulary};
 ghost use Rattle.sbl_batch.specs.Compare.{Compares};
 ghost use Rattle.sbl_batch.specs.Filter.{filter_output};
-ghost use Rattle.sbl_batch.specs.Laws.{NoRepeats};
 ghost use Rattle.sbl_batch.specs.declared.bench_pair.CompareInput.{CompareInput};
 ghost use Rattle.sbl_batch.specs.declared.word_fault.WordFault.{WordFault};
 ghost use Rattle.sbl_reports.specs.Block.{NoPoint};
 ghost use Rattle.sbl_input.specs.declared.faults.LoadFault.{LoadFault};
 ghost use Rattle.sbl_io.specs.LinesOf.{lines_of};
 ghost use Rattle.sbl_reports.specs.Listings.{stems_text};
-ghost use Rattle.law_tests.specs.Filters.{AreOfOneInput, IsFilterToPoint, Loads, WriteOne, Writes};
+ghost use Rattle.law_tests.specs.Filters.{AreOfOneInput, IsEachOnce, IsFilterToPoint, Loads, WriteOne, Writes};
 
 use sbl_batch::laws::{
     comparing_is_one, filtering_is_one, inputs_are_one, parts_make_whole, stem_is_filter,
@@ -28,9 +27,10 @@ pub fn needs_parts_make_whole()
 }
 
 /// Needs the whole of the law `stem_is_filter`.
+#[tactic(auto, using(crate::proofs::FilterPremises::no_repeats))]
 pub fn needs_stem_is_filter()
     ensures vocabulary { (s : Source) (words : List (List ℕ)) → stems_text (opening_contents s words) ≡ filter_output s (vocabulary words) }
-    ensures same { (s : Source) (words : List (List ℕ)) → NoRepeats words → filter_output s words ≡ stems_text (opening_contents s words) }
+    ensures same { (s : Source) (words : List (List ℕ)) → IsEachOnce words → filter_output s words ≡ stems_text (opening_contents s words) }
 {
     stem_is_filter();
 }
@@ -50,6 +50,7 @@ pub fn needs_inputs_are_one()
 }
 
 /// Needs the whole of the law `filtering_is_one`.
+#[tactic(auto, using(crate::proofs::FilterPremises::filters_are_one))]
 pub fn needs_filtering_is_one()
     ensures { (bytes external : List ℕ) (a b : Option (List ℕ)) (text other : List ℕ) (r q : Result (Unit {0}) LoadFault) → WriteOne bytes external a b text other r q }
 {

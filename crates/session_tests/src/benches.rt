@@ -117,6 +117,7 @@ cats¶boxes¶.¶remove boxes¶add dog¶add cake||1|!71 Write|classes¶runs¶|cat
 = groupings ( v ) externals ( stem ) define v 'a' define stem as ( [ v ] delete )
 ab¶b¶.¶grouping v¶'b'|||!73 Cut|stems¶runs¶|ab,stem,b¶b,stem,b¶2¶
 ab¶b¶.¶grouping v¶'b'¶.|||ok¶|stems¶runs¶|ab,stem,ab¶b,stem,¶4¶
+ab¶b¶.¶grouping v¶'b'¶.¶add c||1|!71 Write|stems¶runs¶|ab,stem,ab¶b,stem,¶4¶
 = externals ( stem )¶define stem as ( [ among ( 'un' () 're' () ) ] delete )
 .¶add undo¶add red|||ok¶ok¶|stems¶|undo,stem,do¶red,stem,d¶
 .¶add undo¶limit 1¶stems||1|!71 Write|stems¶|undo,stem,do¶
