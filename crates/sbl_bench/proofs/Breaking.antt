@@ -108,11 +108,12 @@ word_ends words w = by (nat_lt max_word_length (length w)) (is_skipped w words) 
 
 opening_ends : (words ws : List (List ℕ)) → opening_fault words ws ≢ Some fault.BrokenOff
 opening_ends words [] same = cc same
-opening_ends words (w ∷ ws) same = by (word_fault words w) refl same
+opening_ends words (w ∷ ws) same = by (opening_ends (with_word words w) ws) (word_fault words w) refl same
   where
-    by : (o : Option EditFault) → word_fault words w ≡ o → option_or o (opening_fault (with_word words w) ws) ≢ Some fault.BrokenOff
-    by None is e = opening_ends (with_word words w) ws e
-    by (Some f) is e = word_ends words w (is ∙ e)
+    by : opening_fault (with_word words w) ws ≢ Some fault.BrokenOff → (o : Option EditFault) → word_fault words w ≡ o
+        → option_or o (opening_fault (with_word words w) ws) ≢ Some fault.BrokenOff
+    by later None is e = later e
+    by later (Some f) is e = word_ends words w (is ∙ e)
 
 pub list_found_ends : (ws : List (List ℕ)) → opening_fault [] ws ≢ Some fault.BrokenOff
 list_found_ends ws = opening_ends [] ws
@@ -122,7 +123,7 @@ list_ends ws f is same = opening_ends [] ws (subst (IsFaultOrMemory (opening_fau
 
 pub added_ends : (s : Contents) (word : List ℕ) → refusal_of_add s word ≢ Some fault.BrokenOff
 added_ends s [] same = cc same
-added_ends s (c ∷ word) = by (nat_lt max_word_length (length (c ∷ word))) (is_word (c ∷ word) s.words) (nat_le max_words (length s.words))
+added_ends s (c ∷ word) same = by (nat_lt max_word_length (length (c ∷ word))) (is_word (c ∷ word) s.words) (nat_le max_words (length s.words)) same
   where
     by : (a b c : Bool) → cond a (Some fault.WordTooLong) (cond b (Some fault.Present) (cond c (Some fault.Full) None)) ≢ Some fault.BrokenOff
     by true b c same = cc same

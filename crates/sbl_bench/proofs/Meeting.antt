@@ -87,13 +87,6 @@ at_mapped f [] k d = refl
 at_mapped f (x ∷ xs) zero d = refl
 at_mapped f (x ∷ xs) (suc k) d = at_mapped f xs k d
 
--- so each of them is short enough to be run
-pub short_at : {A : Type 0} (f : A → List ℕ) (ws : List A) (k : ℕ) (d : A) → All IsWord (map f ws) → k < length ws → length (f (slice_index_or ws k d)) ≤ 255
-short_at f ws k d words below =
-    let same = length-map ws f in
-    let w : IsWord (slice_index_or (map f ws) k (f d)) = words k (f d) (omega (arith, same, below)) in
-    subst (λ (t : List ℕ). length t ≤ 255) (at_mapped f ws k d) w.1
-
 -- ---- what is met, and the words that it has
 
 -- a word that is not met is not run

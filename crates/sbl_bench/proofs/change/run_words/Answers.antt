@@ -2,7 +2,8 @@ use Rattle.std.proofs.Common.{◌∙◌, ◌-◌, ◌+◌, ◌++◌, ◌∷◌, 
 use Rattle.std.proofs.lemmas.List.{length-drop}
 use Rattle.std.proofs.lemmas.Result.{err_from_is_err_and}
 use Rattle.sbl_bench.proofs.Breaking.{cut_more, cut_stops, told_more}
-use Rattle.sbl_bench.proofs.Meeting.{run_is, short_at}
+use Rattle.sbl_bench.proofs.Listing.{sound_at}
+use Rattle.sbl_bench.proofs.Meeting.{run_is}
 use Rattle.sbl_bench.specs.inside.Changes.{Rerun, rerun_of, reruns, view_change}
 use Rattle.sbl_rows.proofs.Loops.{step_map}
 use Rattle.sbl_rows.proofs.SetFacts.{no_text}
@@ -11,7 +12,7 @@ use Rattle.sbl_rows.specs.Setting.{under}
 use Rattle.sbl_bench.proofs.change.run_words.Goals as goal
 
 pub run_or_break-requires-clause-sound : goal.run_or_break-requires-clause-sound
-run_or_break-requires-clause-sound g c = short_at (λ (w : Bor (List ℕ)). w.now) c.args.words.now c.loop-word.word-index _ c.requires.sound c.loop-word-test.true
+run_or_break-requires-clause-sound g c = sound_at (λ (w : Bor (List ℕ)). w.now) c.args.words.now c.loop-word.word-index _ c.requires.sound c.loop-word-test.true
 
 pub loop-word-preserved : goal.loop-word-preserved
 loop-word-preserved g c =
