@@ -85,7 +85,8 @@ pub fn stats_text(alloc: Global, bench: &Bench) -> Result<Vec<u8>, AllocError>
     ensures { IfOk result (λ text. text.items ≡ spec.stats_text (contents_of bench.now)) }
 {
     let rows = bench.rows()?;
-    let figures = stats(alloc, &rows)?;
+    let classes = bench.classes()?;
+    let figures = stats(&rows, &classes);
     let mut out = Vec::new(alloc);
     push_word_figures(alloc, &mut out, &figures)?;
     push_class_figures(alloc, &mut out, &figures)?;

@@ -30,15 +30,19 @@ pub record Stats : Type 0 where
   pub largest : ℕ
   pub unchanged : ℕ
 
-abbrev pub stats_of : List Row → Stats
-stats_of rows = record {
+-- the figures about rows, whose classes these are
+abbrev pub stats_in : List Row → List Class → Stats
+stats_in rows classes = record {
   words = length rows;
   refused = count_by (λ r. is_refused r.outcome) rows;
-  classes = length (classes_of rows);
-  alone = count_by (λ c. is_one c.members) (classes_of rows);
-  largest = largest_size (classes_of rows);
+  classes = length classes;
+  alone = count_by (λ c. is_one c.members) classes;
+  largest = largest_size classes;
   unchanged = count_by (λ r. is_itself r.word r.outcome) rows;
 }
+
+abbrev pub stats_of : List Row → Stats
+stats_of rows = stats_in rows (classes_of rows)
 
 abbrev pub view_stats : declared.RowStats → Stats
 view_stats s = record { words = s.words; refused = s.refused; classes = s.classes; alone = s.alone; largest = s.largest; unchanged = s.unchanged }

@@ -1,13 +1,14 @@
 //! Figures about rows and their classes.
 
-ghost use Rattle.std.specs.Prelude.{◌≡◌, IfOk, count_by, option_map};
+ghost use Rattle.std.specs.Prelude.{◌≡◌, IfOk, count_by, map, option_map};
 ghost use Rattle.sbl_rows.specs.Changes.{is_one};
 ghost use Rattle.sbl_rows.specs.Classes as classes;
-ghost use Rattle.sbl_rows.specs.Classes.{view_stem_class, view_stem_classes};
+ghost use Rattle.sbl_rows.specs.Classes.{view_class, view_stem_classes};
 ghost use Rattle.sbl_rows.specs.Grouping.{view_pair, view_pairs};
 ghost use Rattle.sbl_rows.specs.Rows.{view_row, view_rows};
 ghost use Rattle.sbl_rows.specs.Stats as spec;
 
+use crate::class::Class;
 use crate::lists::push_some;
 use crate::row::Row;
 use crate::stem_class::{StemClass, StemPair, classes_of};
@@ -31,19 +32,18 @@ pub struct RowStats {
     pub unchanged: usize,
 }
 
-/// Returns figures about the rows. Each word has one row. Returns `AllocError` if an allocation fails.
-pub fn stats(alloc: Global, rows: &[Row<'_>]) -> Result<RowStats, AllocError>
-    ensures { IfOk result (λ figures. spec.view_stats figures ≡ spec.stats_of (view_rows rows.now)) }
+/// Returns figures about rows, whose classes these are. Each word has one row. Does not allocate.
+pub fn stats(rows: &[Row<'_>], classes: &[Class]) -> RowStats
+    ensures { spec.view_stats result ≡ spec.stats_in (view_rows rows.now) (map view_class classes.now) }
 {
-    let classes = word_classes(alloc, rows)?;
-    Ok(RowStats {
+    RowStats {
         words: rows.len(),
         refused: refused_words(rows),
         classes: classes.len(),
-        alone: classes_of_one(&classes),
-        largest: largest_size(&classes),
+        alone: classes_of_one(classes),
+        largest: largest_size(classes),
         unchanged: unchanged_words(rows),
-    })
+    }
 }
 
 /// Returns the classes of the rows, stems and words in code point order. Returns `AllocError` if an allocation fails.
@@ -115,26 +115,26 @@ fn unchanged_words(rows: &[Row<'_>]) -> usize
 }
 
 /// Returns the number of classes of one word.
-fn classes_of_one(classes: &[StemClass<'_>]) -> usize
-    ensures { result ≡ count_by (λ c. is_one (view_stem_class c).members) classes.now }
+fn classes_of_one(classes: &[Class]) -> usize
+    ensures { result ≡ count_by (λ c. is_one (view_class c).members) classes.now }
 {
     classes.iter().filter(|class| is_of_one(class)).count()
 }
 
-/// Returns whether the class has one member.
-fn is_of_one(class: &StemClass<'_>) -> bool
-    ensures { result ≡ is_one (view_stem_class class.now).members }
+/// Returns whether the class has one word.
+fn is_of_one(class: &Class) -> bool
+    ensures { result ≡ is_one (view_class class.now).members }
 {
-    matches!(class.members.as_slice(), [_])
+    matches!(class.words.as_slice(), [_])
 }
 
 /// Returns the number of words in the largest class; 0 if there is none.
-fn largest_size(classes: &[StemClass<'_>]) -> usize
-    ensures { result ≡ spec.largest_size (view_stem_classes classes.now) }
+fn largest_size(classes: &[Class]) -> usize
+    ensures { result ≡ spec.largest_size (map view_class classes.now) }
 {
     let mut largest = 0;
     for class in classes {
-        largest = class.members.len().max(largest);
+        largest = class.words.len().max(largest);
     }
     largest
 }

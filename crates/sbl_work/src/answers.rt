@@ -111,10 +111,11 @@ fn changes(alloc: Global, desk: &Desk, bench: &Bench) -> Reply
     report(changes_since_mark(alloc, desk, bench))
 }
 
-/// Returns the reply to `stats`.
-fn stats(alloc: Global, bench: &Bench) -> Reply
-    ensures { (d : State) → IsWorkAnswer (contents_of bench.now) d spec.Stats result (contents_of bench.now) d }
+/// Returns the reply to `stats`. The bench keeps its classes in order from then on, if there is memory for it.
+fn stats(alloc: Global, bench: &mut Bench) -> Reply
+    ensures { (d : State) → IsWorkAnswer (contents_of bench.old) d spec.Stats result (contents_of bench.new) d }
 {
+    let _kept = bench.keep_classes();
     report(stats_text(alloc, bench))
 }
 
