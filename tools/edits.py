@@ -3,7 +3,8 @@
 
   tools/edits.py crates/NAME EDIT..
 
-Each old text has to be exactly once in its file, as the pairs before it have left that file.
+Each old text has to be exactly once in its file, as the pairs before it have left that file. Each text is one line. An edit that changes
+nothing, or has a line that nobody reads, is no edit.
 """
 import os
 import sys
@@ -30,8 +31,12 @@ def misfit(crate, edit):
             found = texts.get(path, "").count(old) if old else 0
             if found != 1:
                 return f"an old text is in {path} {found} times: {old}"
+            if old == new:
+                return f"a pair changes nothing: {old}"
             texts[path] = texts[path].replace(old, new)
             pairs += 1
+        elif line:
+            return f"nobody reads this line: {line}"
     return None if pairs else "it has no pair of old and new"
 
 
