@@ -3,7 +3,8 @@
 
   tools/edits.py crates/NAME EDIT..
 
-Each old text has to be exactly once in its file, as the pairs before it have left that file.
+Each old text has to be exactly once in its file, as the pairs before it have left that file, and is one line, as its new text is. A pair
+has to change something, and no line may be of another kind.
 """
 import os
 import sys
@@ -24,14 +25,22 @@ def misfit(crate, edit):
                 with open(name, encoding="utf-8", newline="\n") as file:
                     texts[path] = file.read()
         elif line.startswith("old: "):
+            if old:
+                return f"an old text has no new one: {old}"
             old = line[5:]
         elif line.startswith("new:"):
             new = line[4:].removeprefix(" ")
             found = texts.get(path, "").count(old) if old else 0
             if found != 1:
                 return f"an old text is in {path} {found} times: {old}"
+            if old == new:
+                return f"a pair changes nothing: {old}"
             texts[path] = texts[path].replace(old, new)
-            pairs += 1
+            pairs, old = pairs + 1, ""
+        elif line:
+            return f"a line of no known kind: {line}"
+    if old:
+        return f"an old text has no new one: {old}"
     return None if pairs else "it has no pair of old and new"
 
 

@@ -1,10 +1,10 @@
 #!/usr/bin/env python3
-"""Prints a script for the figures of runs that look into a large among or grouping, or the strings of one.
+"""Prints a script for the figures of runs that look into a large among or grouping; or, for `endings`, only the strings of an among.
 
   tests/lib/looked_up.py searched COUNT   one among of so many strings, searched again and again
   tests/lib/looked_up.py tested COUNT     one grouping of so many characters, tested again and again
   tests/lib/looked_up.py joined COUNT     two groupings, each of one character in each 1,024 codes, and so many that are both
-  tests/lib/looked_up.py endings          18,902 strings: two endings of the words of tests/lib/words.py, and each letter before them
+  tests/lib/looked_up.py endings          18,902 strings: two of the first 27 endings of tests/lib/words.py, and each letter before them
 """
 from __future__ import annotations
 
@@ -37,8 +37,8 @@ def joined(count: int) -> list[str]:
 
 def endings() -> list[str]:
     """Returns the strings of an among."""
-    shorter = ENDINGS[1:-3]
-    texts = dict.fromkeys(letter + first + second for first in shorter for second in shorter for letter in string.ascii_lowercase)
+    some = [it for it in ENDINGS if it][:27]
+    texts = dict.fromkeys(letter + first + second for first in some for second in some for letter in string.ascii_lowercase)
     return [f"'{it}'" for it in texts]
 
 

@@ -11,7 +11,7 @@
   python3 tests/sources/grouped TOP JOBS --read CRATE..         only says which edits show nothing, since they add a function without `ensures`
 
 What no group settles is tried again in a smaller group, without the edits that are settled, and in the end alone. Edits of texts outside
-of bodies are tried alone from the start. That an edit is accepted is said only of a check of that edit alone.
+of bodies are tried alone from the start. That an edit is accepted is said only of a check of that edit alone, unless it is a control.
 
 The edits of tests/sources/grouped/controls/CRATE mean the same as the code. They are tried in the same groups, and none may be refused; that its
 goals have other names may be said of one.
