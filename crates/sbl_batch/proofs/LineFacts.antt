@@ -13,12 +13,13 @@ body : List ℕ → List ℕ → List ℕ → List ℕ
 body a b c = (a ++ (44 ∷ (b ++ (44 ∷ (c ++ []))))) ++ (10 ∷ [])
 
 line-body : (a b c : List ℕ) → body a b c ≡ a ++ (44 ∷ (b ++ (44 ∷ (c ++ (10 ∷ [])))))
+unfolding body
 line-body a b c =
     append_assoc a (44 ∷ (b ++ (44 ∷ (c ++ [])))) (10 ∷ [])
     ∙ ap (λ (t : List ℕ). a ++ (44 ∷ t)) (append_assoc b (44 ∷ (c ++ [])) (10 ∷ []) ∙ ap (λ (t : List ℕ). b ++ (44 ∷ t)) (append_assoc c [] (10 ∷ [])))
 
 record-body : (a b c : List ℕ) → record_line (a ∷ b ∷ c ∷ []) ≡ body (field_text flexible a) (field_text flexible b) (field_text flexible c)
-unfolding fields_text is_blank
+unfolding fields_text is_blank body
 record-body a b c = refl
 
 pub plain-line : (a b c : List ℕ) → needs_quotes flexible a ≡ false → needs_quotes flexible b ≡ false → needs_quotes flexible c ≡ false

@@ -19,5 +19,5 @@ filter_word-filtered-requires-clause-is c = c.deref.ensures.value ∙ c.in_ok-pu
 
 pub returns-clause-pushes : goal.returns-clause-pushes
 returns-clause-pushes c = λ s made.
-    subst (λ (w : List ℕ). PushesRow s w c.args.rows.now.text.items c.filter_word.new.rows.text.items c.filter_word-filtered.result) c.in-Ok.ensures.cases.0
+    subst (λ (w : List ℕ). PushesRow s w c.args.rows.now.text.items c.filter_word-filtered.new.rows.text.items c.filter_word-filtered.result) c.in-Ok.ensures.cases.0
     (c.filter_word-filtered.ensures.pushes s made)

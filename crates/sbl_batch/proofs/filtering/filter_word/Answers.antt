@@ -4,8 +4,8 @@ use Rattle.std.specs.Str.{is_utf8}
 use Rattle.sbl_batch.proofs.FilterFacts.{is_none, is_some, line-empty, line-long, line-row}
 use Rattle.sbl_batch.proofs.filtering.filter_word.Goals as goal
 
-pub returns-then-len-gt-MAX_WORD_LENGTH-clause-pushes : goal.returns-then-len-gt-MAX_WORD_LENGTH-clause-pushes
-returns-then-len-gt-MAX_WORD_LENGTH-clause-pushes c = λ s made.
+pub returns-then-characters-gt-MAX_WORD_LENGTH-clause-pushes : goal.returns-then-characters-gt-MAX_WORD_LENGTH-clause-pushes
+returns-then-characters-gt-MAX_WORD_LENGTH-clause-pushes c = λ s made.
     let long : 255 < length c.args.characters.now = search rules in
     line-long s c.args.word.now c.args.rows.now.text.items (is_utf8-from_IsUtf8 c.args.word.now c.utf8.word) c.requires.is long
 

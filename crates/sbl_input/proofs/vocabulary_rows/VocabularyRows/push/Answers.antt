@@ -32,10 +32,10 @@ returns-clause-words c =
 pub write_row-requires : goal.write_row-requires
 write_row-requires c =
     let on : c.in-Ok-true.field-0 ≡ true = search rules in
-    let last = set-last c.args.self.now.words.keys c.insert.new.self.keys c.args.word c.in-Some.word.now _ c.in-Ok-true.ensures.keys c.in-Ok-true.ensures.added on
-    (sym (ap option_copied c.in-Some.is) ∙ c.last.ensures.key) in
+    let last = set-last c.args.self.now.words.keys c.insert.new.self.keys c.args.word c.in-Some-last.word.now _ c.in-Ok-true.ensures.keys c.in-Ok-true.ensures.added on
+    (sym (ap option_copied c.in-Some-last.is) ∙ c.last.ensures.key) in
     let fits : length c.args.word.items ≤ 255 = search rules in
-    subst (λ (w : List ℕ). length w ≤ 255) (ap (λ w. w.items) (sym last) ∙ sym c.as_slice-2.ensures.value) fits
+    subst (λ (w : List ℕ). length w ≤ 255) (ap (λ w. w.items) (sym last) ∙ sym c.as_slice.ensures.value) fits
 
 pub returns-clause-rows : goal.returns-clause-rows
 returns-clause-rows c = λ s made old.
@@ -44,9 +44,9 @@ returns-clause-rows c = λ s made old.
     let writer = c.write_row.new.records.writer in
     let some : nat_eq (length word) 0 ≡ false = ap (λ (n : ℕ). nat_eq n 0) (sym c.args.word.ok.0) ∙ sym c.is_empty.ensures ∙ c.if-is_empty.false in
     let on : c.in-Ok-true.field-0 ≡ true = search rules in
-    let last = set-last keys c.insert.new.self.keys c.args.word c.in-Some.word.now _ c.in-Ok-true.ensures.keys c.in-Ok-true.ensures.added on
-    (sym (ap option_copied c.in-Some.is) ∙ c.last.ensures.key) in
+    let last = set-last keys c.insert.new.self.keys c.args.word c.in-Some-last.word.now _ c.in-Ok-true.ensures.keys c.in-Ok-true.ensures.added on
+    (sym (ap option_copied c.in-Some-last.is) ∙ c.last.ensures.key) in
     let put = set-new keys c.insert.new.self.keys c.args.word _ some c.in-Ok-true.ensures.keys c.in-Ok-true.ensures.added on in
     let row = λ (x : List ℕ). text_of_rows s (texts_of keys) ++ record_line (row_fields (row_of (under s default_limit) x)) in
-    let text = ap row (c.as_slice-2.ensures.value ∙ ap (λ w. w.items) last) ∙ rows-more s (texts_of keys) word ∙ ap (text_of_rows s) (sym put) in
+    let text = ap row (c.as_slice.ensures.value ∙ ap (λ w. w.items) last) ∙ rows-more s (texts_of keys) word ∙ ap (text_of_rows s) (sym put) in
     subst (HasWritten writer) text (c.in_ok-write_row.ensures s made _ old)
