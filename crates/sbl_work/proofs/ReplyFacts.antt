@@ -128,7 +128,7 @@ pub part_bad : (s : Contents) (d : State) (line : List ℕ) (lines : List (List 
     → IsWorkAnswer s d (part_command (target_of line) (made_text lines) (text_of_block lines)) r s d
 part_bad s d line lines r none shown =
     same_command s s d d (part_command None (made_text lines) (text_of_block lines)) (part_command (target_of line) (made_text lines) (text_of_block lines)) r (ap (λ (o : Option ScriptEdit). part_command o (made_text lines) (text_of_block lines)) (sym none))
-    (with_line_feed (codes "no 52 BadCommand"), shown, ((Enough, (refl, refl)), inl (refl, refl)))
+    (with_line_feed (codes "no 52 BadCommand"), shown, (inl (Enough, (refl, refl)), inl (refl, refl)))
 
 -- an allocation for the line failed
 pub part_unkept : (s : Contents) (d : State) (line : List ℕ) (lines : List (List ℕ)) (r : Reply) → is_some (target_of line) ≡ true → IsReply r (edit_text (Some fault.OutOfMemory))
@@ -282,14 +282,14 @@ pub families_refused : (s : Contents) (d : State) (lines : List (List ℕ)) (f :
 families_refused s d lines f r (inl long) shown =
     let test : nat_lt max_script (length (made_text lines)) ≡ true = grind (arith, nat_tests) in
     let text : IsReply r (edit_text (Some (fault.Script script.ScriptTooLong))) = subst (λ (g : EditFault). IsReply r (edit_text (Some g))) long.0 shown in
-    rw test (edit_text (Some (fault.Script script.ScriptTooLong)), text, ((Enough, (refl, refl)), inl (refl, refl)))
+    rw test (edit_text (Some (fault.Script script.ScriptTooLong)), text, (inl (Enough, (refl, refl)), inl (refl, refl)))
 families_refused s d lines f r (inr memory) shown = by (nat_lt max_script (length (made_text lines))) refl
   where
     text : IsReply r (edit_text (Some fault.OutOfMemory))
     text = subst (λ (g : EditFault). IsReply r (edit_text (Some g))) memory shown
 
     by : (b : Bool) → nat_lt max_script (length (made_text lines)) ≡ b → IsWorkAnswer s d (families_command lines) r s d
-    by true is = rw is (edit_text (Some fault.OutOfMemory), text, ((BlockRefused, (refl, refl)), inl (refl, refl)))
+    by true is = rw is (edit_text (Some fault.OutOfMemory), text, (inl (BlockRefused, (refl, refl)), inl (refl, refl)))
     by false is = rw is (edit_text (Some fault.OutOfMemory), text, inr (refl, refl, refl))
 
 -- ---- a line with its block

@@ -13,8 +13,9 @@ use Rattle.sbl_work.proofs.answers.answer_line.Goals as goal
 pub returns-in-Stats : goal.returns-in-Stats
 returns-in-Stats g c =
     let s = contents_of c.args.bench.now in
+    let t = contents_of c.stats.new.bench in
     let d = state_of c.args.desk.now in
-    same_command s s d d (Stats) (alone_command (view_file c.args.file) c.args.line.now) c.stats.result (c.in-Stats.ensures (view_file c.args.file)) (c.stats.ensures d)
+    same_command s t d d (Stats) (alone_command (view_file c.args.file) c.args.line.now) c.stats.result (c.in-Stats.ensures (view_file c.args.file)) (c.stats.ensures d)
 
 pub returns-in-Figures : goal.returns-in-Figures
 returns-in-Figures g c =
