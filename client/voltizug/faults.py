@@ -13,6 +13,10 @@ INDENT = "    "
 PLACE = re.compile(r":(\d+):(\d+): (.*)", re.S)
 CANNOT_BE_READ = re.compile(r"snowbench: (.+): [^:]+ \(os error \d+\)")
 CODE = re.compile(r"snowbench: (\d+) (\w+)")
+# What is said of a script without an external; what of `non` and a grouping in one word, if no other name is near it.
+NO_EXTERNAL = ": the script declares no external: "
+NEGATED = re.compile(r": non_?([A-Za-z][A-Za-z0-9_]*) is not declared\. (?:Did you mean non\?|Declare )")
+COMMENT = re.compile(rb"//[^\n]*|/\*.*?\*/", re.S)
 
 
 def code_of(said: Sequence[str]) -> int:
@@ -41,20 +45,9 @@ def place_of(said: Sequence[str], *names: str) -> Place:
 def shown(said: Sequence[str], script: str, text: Optional[bytes], width: int) -> List[str]:
     """Returns the lines on a fault, and the line of the script with carets cut to the window."""
     lines = [with_file(line, script) for line in said if not CODE.match(line)]
-    for i, line in enumerate(lines[:-1]):
-        word = [*lines[i + 1].split(), ""][0]
-        if text and b"stringescapes" not in text and ": } can only be" in line:
-            lines[i] += ". A literal with {..} needs stringescapes {} above it"
-        elif re.search(r"\w can only be in a literal", line) and lines[i + 1].count("'") % 2:
-            lines[i] += ". Look for a missing quote before it, too"
-        elif " => is of Snowball" in line and re.search(r"\$\s*\w+\s*=>", lines[i + 1]):
-            lines[i] += ". Did you mean >=?"
-        elif line.endswith(" the name that is inserted here") and "^" in "".join(lines[i + 2 : i + 3]):
-            name = lines[i + 1][lines[i + 2].index("^") + 1 :].partition("}")[0]
-            names = re.findall(r"\bstringdef\s+(\S+)", (text or b"").decode("utf-8", "replace"))
-            lines[i] += ". A } is missing, perhaps" if " " in name else "." * bool(near(name, names)) + meant(name, names)
-        elif " can only be in a literal" in line and word not in ITEMS and meant(word, ITEMS):
-            lines[i] += "." + meant(word, ITEMS)
+    lines = [line + advice(line, *[*lines[i + 1 : i + 3], "", ""][:2], text or b"") for i, line in enumerate(lines)]
+    lines = [line.replace(NO_EXTERNAL, lacking(text or b"")) if line.startswith(script + NO_EXTERNAL) else line for line in lines]
+    lines = [negated(line, text or b"") for line in lines]
     if (text or b"").startswith(BOM):
         lines = without_mark(lines, script)
     lines = [line if line.startswith(INDENT) else re.sub(r"\w{61,}", lambda name: short(name[0]), line) for line in map(named, lines)]
@@ -63,6 +56,35 @@ def shown(said: Sequence[str], script: str, text: Optional[bytes], width: int) -
             at = max(0, carets.index("^") - 4 - width // 2)
             lines[i : i + 2] = [(INDENT + part[4 + at :])[:width].rstrip() for part in (line, carets)]
     return lines
+
+
+def advice(line: str, source: str, carets: str, text: bytes) -> str:
+    """Returns what is said besides after a line on a fault of a text, by the line of the text below it, and the carets."""
+    word = [*source.split(), ""][0]
+    if text and b"stringescapes" not in text and ": } can only be" in line:
+        return ". A literal with {..} needs stringescapes {} above it"
+    if re.search(r"\w can only be in a literal", line) and source.count("'") % 2:
+        return ". Look for a missing quote before it, too"
+    if " => is of Snowball" in line and re.search(r"\$\s*\w+\s*=>", source):
+        return ". Did you mean >=?"
+    if line.endswith(" the name that is inserted here") and "^" in carets:
+        name = source[carets.index("^") + 1 :].partition("}")[0]
+        names = re.findall(r"\bstringdef\s+(\S+)", text.decode("utf-8", "replace"))
+        return ". A } is missing, perhaps" if " " in name else "." * bool(near(name, names)) + meant(name, names)
+    return "." + meant(word, ITEMS) if " can only be in a literal" in line and word not in ITEMS and meant(word, ITEMS) else ""
+
+
+def lacking(text: bytes) -> str:
+    """Returns what is said of a text that declares no external: whether it has anything at all."""
+    is_empty = not text.removeprefix(BOM).strip()
+    return ": the script is empty: " if is_empty else ": the script has only comments: " if not COMMENT.sub(b"", text.removeprefix(BOM)).strip() else NO_EXTERNAL
+
+
+def negated(line: str, text: bytes) -> str:
+    """Returns the line on a name that is not declared; if it is `non` and the name of a grouping, with the question whether these are meant."""
+    found = NEGATED.search(line)
+    is_known = found and re.search(rb"\bdefine\s+%s\b(?!\s+as\b)" % found[1].encode(), text)
+    return line[: found.end(1)] + " is not declared. Did you mean non %s?" % found[1] if found and is_known else line
 
 
 def with_file(line: str, script: str) -> str:

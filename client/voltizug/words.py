@@ -158,9 +158,11 @@ def no_name(line: str, bench: Stage) -> str:
     entry = next((key for key in places.entries if argument in (key[2], "'%s'" % key[2])), None) if command == "uses" else None
     if entry:
         return "%s is a string of an among: uses %s %s %s." % (short(argument), *map(short, entry))
+    bare = re.sub(r"\Anon[-_]?", "", name)
+    question = meant(name, there) or " Did you mean %s?" % short(bare) * (bare in there)
     others = " The script has %s." % (in_words(there, "and") if there else "none")
     others += " Declare and define a new one in the file." if command in ("routine", "grouping") else ""
-    return "%sthere is no %s of this name.%s" % (begin, " or ".join(kinds), meant(name, there) or others)
+    return "%sthere is no %s of this name.%s" % (begin, " or ".join(kinds), question or others)
 
 
 def amongs_of(line: str, bench: Stage) -> str:
