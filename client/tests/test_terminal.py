@@ -174,9 +174,32 @@ define stem as backwards ( do r do s )
             self.assertEqual(terminal.enter(line), "A report goes into a file by > FILE, as in: classes > my.classes. There are no pipes here.")
         self.assertEqual(terminal.enter("find >"), "no word and no stem has it")
         self.assertEqual(terminal.enter("classes > out"), "3 lines in out")
-        there = "out is there already, and classes does not overwrite it. Nothing was written: name a new file, or delete that one first."
+        there = "out is there already. Nothing was written: the same line again overwrites it."
         self.assertEqual(terminal.enter("classes > out"), there)
+        self.assertEqual(terminal.enter("classes", "classes > out"), there)
+        self.assertEqual(terminal.enter("stats > out", "classes > out"), there)
+        terminal.save("mine", "out")
+        os.chmod(os.path.join(self.folder, "out"), 0o640)
+        self.assertEqual(terminal.enter("classes > out"), "3 lines in out")
+        self.assertEqual(os.stat(os.path.join(self.folder, "out")).st_mode & 0o777, 0o640)
+        self.assertEqual(terminal.enter("classes > out"), there)
+        for path in ("my.sbl", "my.words"):
+            self.assertIn("and classes does not overwrite it", terminal.enter("classes > " + path, "classes > " + path))
+        self.assertIn("/dev/null is there already, and classes does not overwrite it", terminal.enter("classes > /dev/null", "classes > /dev/null"))
         self.assertEqual(terminal.enter("stats > state"), "state cannot be written: it is a folder. Name a file in it.")
+
+    def test_the_number_of_an_among_is_asked_for(self):
+        terminal = self.begin(AUTHOR.replace("'ss' ()", "'ss' ( [ among ( 'x' (delete) ) ] )"))
+        asked = terminal.type("among plural\r", rb"\? $").split("\n")[-1]
+        self.assertEqual(asked, "Which among of plural, 1 (my.sbl:6:34) or 2 (my.sbl:6:69)? ")
+        self.assertEqual(terminal.enter(""), "Nothing was done.")
+        terminal.type("among plural\r", rb"\? $")
+        self.assertIn("plural has 2 amongs, so K is 1 or 2", terminal.enter("3"))
+        terminal.type("among plural\r", rb"\? $")
+        terminal.type("\x03")
+        terminal.type("among plural\r", rb"\? $")
+        self.assertEqual(terminal.enter("2", "among ( 'y' (delete) )", "."), "no word and no class differs from the mark")
+        self.assertEqual(terminal.enter("undo"), "taken back: among plural 2; no word and no class differs from the mark")
 
     def test_tab_completes(self):
         terminal = self.begin()

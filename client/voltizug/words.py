@@ -35,6 +35,7 @@ SENTENCES: Dict[int, str] = {
 # Why `save`, `approve` or `append` does not write to a file. {other} is what to do, {new} the same with a new file.
 MAY_NOT: Dict[str, str] = {
     "there": "{path} is there already, and {c} does not overwrite it. Nothing was written: {new}, or delete that one first.",
+    "again?": "{path} is there already. Nothing was written: the same line again overwrites it.",
     "others": "{path} was changed since {c} wrote it. Nothing was written: {new}.",
     "words": "{path} has the words, and {c} does not overwrite it. Nothing was written: {other}.",
     "script": "{path} has the script, and {c} does not overwrite it. Nothing was written: {other}.",
@@ -182,6 +183,8 @@ def unknown(line: str, bench: Stage) -> str:
         return strange.format(c=command, called=named(CALLED))
     if command in ("among", "uses"):
         known = " " + amongs_of(line, bench) if bench.places().kind(argument.partition(" ")[0]) == "routine" else ""
+        if known.endswith("no among."):
+            return known.strip()
         lacks = "a number" if known else "a name and a number" if command == "among" else "a name"
         usage = "among NAME K, then an among, then a line with a single point" if command == "among" else COMMANDS["uses"].usage
         return "%s needs %s: %s.%s" % (command, lacks, usage, known)
@@ -208,8 +211,8 @@ def bad_file(line: str, bench: Stage) -> str:
     return "%s cannot be read: %s" % (short(path), why)
 
 
-def not_written(command: str, path: str, bench: Stage) -> str:
-    """Why `save`, `approve` or `append` could not write to a file."""
+def not_written(command: str, path: str, bench: Stage, is_again: bool = False) -> str:
+    """Why `save`, `approve`, `append` or a report could not write to a file. One that is there has a report only if that is asked for again."""
     if command == "append" and not path and not bench.words:
         return "There is no file of words: append FILE writes a new one."
     path = path or (bench.words or "" if command == "append" else "")
@@ -222,7 +225,7 @@ def not_written(command: str, path: str, bench: Stage) -> str:
         (command == "append" and is_there and not is_list, "no words"),
         (os.path.realpath(path) == os.path.realpath(bench.script) and not os.path.lexists(path), "gone"),
         (not os.path.isdir(folder), "no folder"), (os.path.isdir(path), "folder"),
-        (command in REPORTING and is_there, "there"), (not os.access(path if is_there else folder, os.W_OK), "closed"),
+        (command in REPORTING and is_there and not is_again, "again?" if os.path.isfile(path) else "there"), (not os.access(path if is_there else folder, os.W_OK), "closed"),
         (path in bench.saved() or is_script, "changed"), (is_there, "full, there"), (True, "full"),
     ) if is_so), command, path)
 
@@ -276,8 +279,17 @@ def early(line: str, bench: Bench) -> str:
     if line in OPEN_BLOCKS:
         return ""
     code, (command, name) = (bench.ask(line, ".").refusal() or (0, ""))[0], [*line.split(" ", 2), ""][:2]
-    is_unknown = command == "among" and name and bench.places().kind(name) != "routine"
-    return refused(45 if is_unknown else code, line, bench) if is_unknown or code in (45, 46, 52, 53) else ""
+    if command == "among" and name and bench.places().kind(name) != "routine":
+        # (a name begins with a letter, and the text of an among does not)
+        code = 45 if name[0].isalpha() else 52
+    return refused(code, line, bench) if code in (45, 46, 52, 53) else ""
+
+
+def which_among(name: str, bench: Stage) -> str:
+    """Returns the question which among of a routine is meant, with their places."""
+    places = bench.places()
+    found = [(k, places.of(name, k)) for other, k in places.amongs if other == name]
+    return "Which among of %s, %s? " % (short(name), in_words(["%s (%s)" % each if each[1] else each[0] for each in found], "or"))
 
 
 def may_not(why: str, command: str, path: str, then: str = "") -> str:
