@@ -295,7 +295,39 @@ class Traps(Case):
         terminal.save(AUTHOR.replace("'ity' ", ""))
         self.assertNotIn("declares no external", terminal.got(rb"since the mark"))
         terminal.save("")
-        self.assertIn("my.sbl: the script declares no external", terminal.got(rb"Correct it"))
+        self.assertIn("my.sbl: the script is empty", terminal.got(rb"Correct it"))
+
+    def test_a_watched_file_that_is_gone(self):
+        """It is said once, what is in force stays, and the file is read when it is there again, also with its former text."""
+        terminal = self.begin()
+        terminal.enter("routine plural", "true", ".")
+        script, other = (os.path.join(self.folder, name) for name in ("my.sbl", "other.sbl"))
+        terminal.type("class glas", rb"glas$")
+        os.rename(script, other)
+        gone = "my.sbl is gone (deleted or renamed). The script in force stays: save FILE keeps it. When my.sbl is there again, it is read."
+        self.assertIn(gone, " ".join(terminal.got(rb"read\.\n(.|\n)*glas$", 5).replace("\n    ", " ").split("\n")))
+        self.assertIn("glass: glass", terminal.type("s\r"))
+        self.assertEqual(terminal.got(None, 1.5), "")
+        os.rename(other, script)
+        self.assertIn("my.sbl is there again.\n> ", terminal.got(rb"again\.\n> $", 5))
+        os.remove(script)
+        self.assertIn("my.sbl is gone", terminal.got(rb"read\.\n> $", 5))
+        terminal.save(AUTHOR.replace("'ity' ", ""))
+        shown = terminal.got(rb"since the mark", 5)
+        self.assertRegex(shown, r"my.sbl is there again.\n(.|\n)* univers -> university")
+        self.assertIn("put aside: plural", terminal.got(None, 0.3) + shown)
+
+    def test_words_that_are_gone_and_a_script_with_a_fault_that_is(self):
+        terminal = self.begin()
+        os.remove(os.path.join(self.folder, "my.words"))
+        self.assertIn("my.words is gone (deleted or renamed). The words that were read stay.\n", terminal.got(rb"stay\.\n> $", 5))
+        terminal.save("news\n", "my.words")
+        self.assertIn("my.words is there again.\nmy.words has changed: words reads it again.", terminal.got(rb"reads it again\.\n> $"))
+        terminal = self.begin(script="define")
+        os.remove(os.path.join(self.folder, "my.sbl"))
+        self.assertIn("my.sbl is gone (deleted or renamed). It is read when it is there again.\n", terminal.got(rb"there again\.\n> $", 5))
+        terminal.save(AUTHOR)
+        self.assertIn("my.sbl is there again.\n8 words", terminal.got(rb"refused\n> $"))
 
     def test_ctrl_c_drops_lines_and_none_besides(self):
         terminal = self.begin()

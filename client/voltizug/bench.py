@@ -8,6 +8,10 @@ from .kept import FileState, Kept, is_same, read_file, state_of
 from .places import LARGEST, Places
 from .program import BROKEN, DONE, ENDED, USUAL_LIMIT, Moment, Program, Reply
 
+# After so many seconds a file that is not there is gone: no editor is just saving it.
+GONE = 1
+
+
 class Edit(NamedTuple):
     """What an edit did: what differs from the mark now, and what it changed itself, if that may differ. `step` is what undo or redo did; `aside` are
     the names of the typed edits that a reload put aside; `note` is a key of words.NOTES; `pairs` are the figures of the families before and now."""
@@ -30,6 +34,8 @@ class Stage:
         # The states of the files when they were read, and the text that SCRIPT had then.
         self.seen: Dict[str, FileState] = {}
         self.file_text: Optional[bytes] = None
+        # Since when files are not there; those of which this was said.
+        self.missed, self.gone = {}, set()  # type: Dict[str, float], Set[str]
         self.known_places: Optional[Places] = None
 
     def saved(self) -> Dict[str, FileState]:
@@ -37,6 +43,18 @@ class Stage:
         now = {path: (state_of(path), state) for path, state in dict(self.seen).items()}
         changed = {path: state for path, (state, before) in now.items() if state and state != before}
         return {path: state for path, state in changed.items() if state[1] or abs(time.time() - state[0] / 1e9) > 1}
+
+    def news(self) -> Dict[str, FileState]:
+        """Returns what is to be said of files: those that were saved, those that are gone (they have no state), and those that are there again."""
+        found = self.saved()
+        for path, before in dict(self.seen).items():
+            state = state_of(path)
+            if state:
+                self.missed.pop(path, None)
+                found.update({path: state} if path in self.gone and state == before else {})
+            elif time.monotonic() - self.missed.setdefault(path, time.monotonic()) > GONE and path not in self.gone:
+                found[path] = None
+        return found
 
     def settled(self, reply: Reply) -> Reply:
         """Returns the reply after what has to be done if the program is gone."""

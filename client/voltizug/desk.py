@@ -32,7 +32,7 @@ class Desk:
     def __init__(self, bench: Bench, options: Options):
         self.bench, self.options = bench, options
         self.completion = Completion(bench)
-        self.editor = Editor(bench.kept.history, self.completion.complete, bench.saved if options.is_watching else None, self.show_saved)
+        self.editor = Editor(bench.kept.history, self.completion.complete, bench.news if options.is_watching else None, self.show_saved)
         self.screen = Screen(self.editor, options.color, options.has_pager)
         # Warnings that were given, and lints; lines in a row that are no command; whether WORDS was saved since it was read.
         self.warned, self.linted, self.nonsense, self.has_old_words = [], [], 0, False  # type: List[str], List[str], int, bool
@@ -124,12 +124,21 @@ class Desk:
         return "%s looks like a list of words" % short(self.bench.script) if has_words else ""
 
     def show_saved(self) -> None:
-        """Reads again what was saved."""
-        if self.bench.is_waiting:
+        """Reads again what was saved, and says which files are gone, or there again."""
+        for path, state in self.bench.news().items():
+            if state is None:
+                kind = "waiting" if self.bench.is_waiting else "script" if path == self.bench.script else "words"
+                self.screen.say(words.GONE[kind].format(path=short(path)))
+                self.bench.gone.add(path)
+            elif path in self.bench.gone:
+                self.screen.say("%s is there again." % short(path))
+                self.bench.gone.discard(path)
+        saved = self.bench.saved()
+        if saved and self.bench.is_waiting:
             self.open()
-        elif self.bench.script in self.bench.saved():
+        elif self.bench.script in saved:
             self.edit(["reload"])
-        else:
+        elif saved:
             self.screen.say(self.note_words())
 
     def note_words(self) -> str:

@@ -350,7 +350,7 @@ class Terminal(Desk):
     def turn(self) -> bool:
         """Reads what was saved and answers a line; returns whether `work` goes on. A fault of this client ends no work."""
         try:
-            if self.options.is_watching and not self.editor.is_interrupted and self.bench.saved():
+            if self.options.is_watching and not self.editor.is_interrupted and self.bench.news():
                 self.show_saved()
             line = self.editor.read("> ")
             if line is None:

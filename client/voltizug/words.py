@@ -50,6 +50,12 @@ MAY_NOT: Dict[str, str] = {
     "full": "{path} cannot be written: {room}.",
     "full, there": "{path} cannot be written: {room}. It has its former text.",
 }
+# What is said of a file that is watched and gone.
+GONE: Dict[str, str] = {
+    "script": "{path} is gone (deleted or renamed). The script in force stays: save FILE keeps it. When {path} is there again, it is read.",
+    "words": "{path} is gone (deleted or renamed). The words that were read stay.",
+    "waiting": "{path} is gone (deleted or renamed). It is read when it is there again.",
+}
 NOTES: Dict[str, str] = {
     "unchanged": "{script} has not changed since it was read.",
     "same": "{script} has the script in force.",
