@@ -86,6 +86,28 @@ class Sessions(Case):
             terminal.enter("")
             self.assertNotIn("fails, nothing after it", terminal.enter("lint"))
 
+    def test_a_call_that_stops_the_rest(self):
+        """Only if it may fail and changes something, or moves the cursor and fails for most words; a test may be meant to stop all."""
+        script = "externals ( stem ) routines ( a b c )\nintegers ( p ) groupings ( v )\ndefine v 'aeiou'\ndefine a as ( %s )\ndefine b as %s\n"
+        script += "define c as ( [ 'y' ] delete )\ndefine stem as ( %s )\n"
+        moves, marks, changes = "gopast v", "gopast v setmark p", "[ 'b' ] delete"
+        if_fails, fails = "my.sbl:7:18: if a fails, nothing after it in stem runs", "%s: a fails for 3 of 4 words, and then nothing after it in %s runs"
+        terminal = self.begin(script % (marks, "true", "a do c"), "by\nsky\nfly\nday\n")
+        self.assertIn(if_fails + ": do a is meant, perhaps", self.start)
+        for a, b, stem, said in (
+            (moves, "true", "a do c", fails % ("my.sbl:7:18", "stem")), (changes, "( a c )", "do b", fails % ("my.sbl:5:15", "b")),
+            (changes, "( a [substring] among ( 'y' (delete) ) )", "do b", fails % ("my.sbl:5:15", "b")),
+            ("$p = limit do ( %s )" % marks, "true", "a do c", ""), ("( %s ) or true" % marks, "true", "a do c", ""),
+            ("test " + moves, "true", "a do c", ""), ("not " + moves, "true", "a do c", ""), (moves, "true", "do a do c", ""),
+            (changes, "( a or c )", "do b", ""), (changes, "( a c ) or true", "do b", ""), (changes, "( try a c )", "do b", ""),
+            (changes, "( a 'x' c )", "do b", ""), (changes, "( a c )", "do a do b", ""), (changes, "( true a )", "do b", ""),
+        ):
+            with self.subTest(a=a, b=b, stem=stem):
+                terminal.save(script % (a, b, stem))
+                terminal.enter("")
+                found = [line for line in terminal.enter("lint").replace("\n    ", " ").split("\n") if " after it in " in line]
+                self.assertEqual(found, [said + ": do a is meant, perhaps"] if said else [])
+
     def test_lint_has_the_warnings_on_the_files(self):
         terminal = self.begin(words="cats \ndogs\n")
         self.assertIn("my.words:1: a blank at an end of the word", terminal.enter("lint"))

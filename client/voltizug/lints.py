@@ -1,10 +1,12 @@
 """What is legal in a script and words, and may not be meant. By the tokens and the strings that the program tells: no script is read here."""
 import re
 import unicodedata
+from collections import Counter
 from itertools import dropwhile, takewhile
 from typing import Dict, Iterable, List, Sequence, Set, Tuple
 
 from .bench import Bench
+from .conditions import BODY
 from .layout import counted, in_words, named, short
 from .places import LARGEST, Places, line_and_column
 from .rows import Outcome, Token
@@ -19,8 +21,12 @@ EMPTY = {"among": "[substring] is meant, perhaps", "<-": "it has no character to
 SURE, NOT_SURE = ("do", "try", "repeat"), ("not", "fail", "for", "and")
 # A routine after one of these may fail.
 GOVERNING = (*SURE, *NOT_SURE, "test", "or", "goto", "gopast", "non", "loop", "atleast")
-# They take the slice.
+# They take the slice; a routine with one of these changes something, with one of those it moves the cursor.
 TAKING = ("delete", "<-", "->")
+CHANGING, MOVING = (*TAKING[:2], "setmark"), ("gopast", "goto", "next", "hop")
+# They may fail. These do not, and what follows them may be a call.
+FAILING = {*MOVING, *"among substring tomark atmark atlimit false fail not non == != < <= > >=".split()}
+PASSING = ("(", "[", "backwards", "test", *SURE)
 
 
 def lints(bench: Bench, has_all: bool = False) -> List[str]:
@@ -30,6 +36,7 @@ def lints(bench: Bench, has_all: bool = False) -> List[str]:
     places, outcomes = bench.places(), bench.outcomes() if has_all or bench.size <= MANY else []
     tokens = [token for token in places.tokens if token.kind != "comment"]
     found = [*misused(tokens), *unset_slices(places), *bare_commands(places, tokens), *plain_braces(tokens)]
+    found += stopping_calls(places, bench, [start for start, _ in found]) if has_all or bench.size <= MANY else []
     found += strange_strings(places, outcomes, tokens) if has_all or bench.size >= FEW else []
     beyond = [token for token in tokens if has_all and token.kind == "literal" and not token.text.isascii()]
     others = " (and {})".format(counted(len(beyond) - 1, "more literal")) if len(beyond) > 1 else ""
@@ -63,20 +70,72 @@ def misused(tokens: Sequence[Token]) -> Iterable[Tuple[int, str]]:
 
 
 def bare_commands(places: Places, tokens: Sequence[Token]) -> Iterable[Tuple[int, str]]:
-    """A routine that changes the text and may fail, or ( .. or such a routine ), without `do` and before something else in an external."""
-    parts = {name: places.part(name)[3:] for name in places.of_kind("routine")}
+    """A routine that changes something and may fail, or ( .. or such a routine ), without `do` and before something else in an external."""
     declared = takewhile(lambda token: token.text != ")", dropwhile(lambda token: token.text != "externals", tokens))
-    texts = {name: [token.text for token in part] + [""] for name, part in parts.items()}
-    doubtful = [name for name, part in texts.items() if not set(part).isdisjoint(TAKING[:2]) and set(part[:2]).isdisjoint(SURE)]
+    doubtful = [name for name in may_fail(places) if not {token.text for token in places.part(name)}.isdisjoint(CHANGING)]
     what = "if {0} fails, nothing after it in {1} runs: do {0} is meant, perhaps"
-    for name in [token.text for token in declared if token.text in parts]:
-        part, before, i = texts[name], "as", 0
-        while i < len(part) - 1:
-            end = i if part[i] != "(" else i if before in ("as", "backwards") else end_of(parts[name], i) - 1
-            is_doubtful = part[end] in doubtful or i < end and part[end - 2] == "or" and part[end - 1] in doubtful
-            if is_doubtful and before not in GOVERNING and not before.isdigit() and part[end + 1] not in ("or", "and", ")", ""):
-                yield parts[name][i].start, what.format("( .. )" if i < end else part[i], name)
-            before, i = part[end], end + 1
+    for name in [token.text for token in declared if token.text in places.of_kind("routine")]:
+        part = places.part(name)[BODY:]
+        for i, end in bare(part):
+            if part[end].text in doubtful or i < end and part[end - 2].text == "or" and part[end - 1].text in doubtful:
+                yield part[i].start, what.format("( .. )" if i < end else part[i].text, name)
+
+
+def bare(part: Sequence[Token]) -> Iterable[Tuple[int, int]]:
+    """The commands of a body, by their first and last tokens, after which the others run only if they do not fail."""
+    texts, before, i = [token.text for token in part] + [""], "as", 0
+    while i < len(part) and (i or texts[end_of(part, 0) if texts[0] == "(" else -1] != "or"):
+        end = i if texts[i] != "(" or before in ("as", "backwards") else end_of(part, i) - 1
+        if before not in GOVERNING and not before.isdigit() and texts[end + 1] not in ("or", "and", ")", ""):
+            yield i, end
+        before, i = texts[end], end + 1
+
+
+def may_fail(places: Places) -> Set[str]:
+    """Returns the routines that may fail, as far as that is plain: what they do after `do`, `try` or `repeat` does not count."""
+    parts = {name: unsure(places.part(name)[BODY:]) for name in places.of_kind("routine")}
+    tests = [*FAILING, *places.of_kind("grouping")]
+    first = [name for name, part in parts.items() if any(token.kind == "literal" or token.text in tests for token in part)]
+    callers = {name: {other for other, part in parts.items() if any(token.text == name for token in part)} for name in parts}
+    return reached(first, callers)
+
+
+def unsure(part: Sequence[Token]) -> List[Token]:
+    """Returns the tokens of a body without what never fails; none if it has an alternative that does not."""
+    found, texts, i = [], [token.text for token in part] + [""], 0  # type: List[Token], List[str], int
+    while i < len(part):
+        if texts[i] == "or" and texts[i + 1] in (*SURE, "true"):
+            return []
+        if texts[i] in SURE and texts[i - 1] not in NOT_SURE:
+            i = next((at for at in range(i + 1, len(part)) if texts[at] not in (*GOVERNING, "among") and not texts[at].isdigit()), len(part) - 1)
+            i = end_of(part, i) if texts[i] == "(" else i + 1
+        else:
+            found += [part[i]] if part[i].kind != "literal" or texts[i - 1] not in PUTTING else []
+            i += 1
+    return found
+
+
+def stopping_calls(places: Places, bench: Bench, known: Sequence[int]) -> Iterable[Tuple[int, str]]:
+    """A routine that does more than test, is called once, without `do`, and fails for most words, so that what comes after it does not run."""
+    parts = {name: places.part(name)[BODY:] for name in places.of_kind("routine")}
+    calls = Counter(token.text for part in parts.values() for token in part)
+    doubtful = [name for name in may_fail(places) if calls[name] == 1 and is_moving(parts[name])]
+    found = [(name, part, i) for name, part in parts.items() for i, end in bare(part) if part[end].text in doubtful and part[i].start not in known]
+    counts = {(row.name, getattr(row, "k", "")): int(row.count) for row in (bench.read("counts") if found else []) if row.kind in ("routine", "among")}
+    what = "{0} fails for {1:,} of {2:,} words, and then nothing after it in {3} runs: do {0} is meant, perhaps"
+    for name, part, i in found:
+        then = next((token for token in part[i + 1 :] if token.text not in PASSING), part[i])
+        among = next((key for key, row in places.amongs.items() if key[0] == name and int(row.start) >= then.start), (name, ""))
+        came = counts.get((part[i].text, ""), 0)
+        went = counts.get(among if then.text in ("substring", "among") else (then.text, ""), came)
+        if 2 * went < came:
+            yield part[i].start, what.format(part[i].text, came - went, came, name)
+
+
+def is_moving(part: Sequence[Token]) -> bool:
+    """Whether a body changes something, or moves the cursor, and is no test as a whole."""
+    texts = [token.text for token in part]
+    return not {*CHANGING, *MOVING}.isdisjoint(texts) and {"test", "not"}.isdisjoint(texts[: 1 + (texts[0] == "(")])
 
 
 def plain_braces(tokens: Sequence[Token]) -> Iterable[Tuple[int, str]]:
