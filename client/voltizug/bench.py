@@ -6,7 +6,7 @@ from typing import Any, Callable, Dict, List, NamedTuple, Optional, Sequence, Se
 from . import rows
 from .kept import FileState, Kept, is_same, read_file, state_of
 from .places import LARGEST, Places
-from .program import BROKEN, DONE, ENDED, USUAL_LIMIT, Moment, Program, Reply
+from .program import BROKEN, DONE, ENDED, USUAL_LIMIT, Memory, Moment, Program, Reply
 
 # After so many seconds a file that is not there is gone: no editor is just saving it.
 GONE = 1
@@ -77,6 +77,19 @@ class Stage:
             known = self.known_places = Places(self.script, text, self.file_text, self.read("places"), rows.tokens(tokens or []))
         known.note = ", as it was read" if self.script in self.saved() else ""
         return known
+
+    def file_tokens(self, is_begun: bool) -> List[rows.Token]:
+        """Returns the tokens of SCRIPT, whose commands may have faults. If the program is not begun, another one is asked."""
+        if is_begun:
+            return rows.tokens(self.known("tokens " + self.script) or [])
+        least = Memory(b"externals ( stem ) define stem as true\n")
+        other = Program([self.program.command[0], "work", "--text"], least.path, None, "", self.program.bell)
+        try:
+            other.begin([], least.path)
+            reply = other.ask(["tokens " + self.script])
+        finally:
+            other.stop()
+        return rows.tokens(reply.lines) if reply.is_done else []
 
     def outcomes(self) -> List[rows.Outcome]:
         return rows.outcomes(self.known("stems") or [])

@@ -1,11 +1,12 @@
 """What the program says about a fault, fitted to a window, with columns as an editor counts them, names of files, and advice."""
 import re
-from typing import List, NamedTuple, Optional, Sequence
+from typing import List, NamedTuple, Optional, Sequence, Tuple
 
 from .language import ITEMS
 from .layout import named, short
 from .near import meant, near
-from .places import BOM
+from .places import BOM, line_and_column
+from .rows import Token
 from .words import converting, in_shell, unreadable
 
 INDENT = "    "
@@ -16,6 +17,7 @@ CODE = re.compile(r"snowbench: (\d+) (\w+)")
 # What is said of a script without an external; what of `non` and a grouping in one word, if no other name is near it.
 NO_EXTERNAL = ": the script declares no external: "
 NEGATED = re.compile(r": non_?([A-Za-z][A-Za-z0-9_]*) is not declared\. (?:Did you mean non\?|Declare )")
+OPEN = re.compile(r"; the \( of (\d+):(\d+) is still open\Z")
 COMMENT = re.compile(rb"//[^\n]*|/\*.*?\*/", re.S)
 
 
@@ -42,12 +44,13 @@ def place_of(said: Sequence[str], *names: str) -> Place:
     return Place(int(place[1]), int(place[2]), carets.count("^"), place[3]) if place else Place(0, 0, 0, " ".join(said))
 
 
-def shown(said: Sequence[str], script: str, text: Optional[bytes], width: int) -> List[str]:
-    """Returns the lines on a fault, and the line of the script with carets cut to the window."""
+def shown(said: Sequence[str], script: str, text: Optional[bytes], width: int, tokens: Sequence[Token] = ()) -> List[str]:
+    """Returns the lines on a fault, and the line of the script with carets cut to the window. Tokens are needed only if a bracket is open."""
     lines = [with_file(line, script) for line in said if not CODE.match(line)]
     lines = [line + advice(line, *[*lines[i + 1 : i + 3], "", ""][:2], text or b"") for i, line in enumerate(lines)]
     lines = [line.replace(NO_EXTERNAL, lacking(text or b"")) if line.startswith(script + NO_EXTERNAL) else line for line in lines]
     lines = [negated(line, text or b"") for line in lines]
+    lines = [line + by_layout(line, text or b"", tokens) if line.startswith(script + ":") and is_open(line) else line for line in lines]
     if (text or b"").startswith(BOM):
         lines = without_mark(lines, script)
     lines = [line if line.startswith(INDENT) else re.sub(r"\w{61,}", lambda name: short(name[0]), line) for line in map(named, lines)]
@@ -85,6 +88,27 @@ def negated(line: str, text: bytes) -> str:
     found = NEGATED.search(line)
     is_known = found and re.search(rb"\bdefine\s+%s\b(?!\s+as\b)" % found[1].encode(), text)
     return line[: found.end(1)] + " is not declared. Did you mean non %s?" % found[1] if found and is_known else line
+
+
+def is_open(line: str) -> bool:
+    """Whether a line names a bracket that is still open."""
+    return bool(OPEN.search(line))
+
+
+def by_layout(line: str, text: bytes, tokens: Sequence[Token]) -> str:
+    """Returns which bracket lacks its end, perhaps: the first one that is closed by one which begins a line and is farther left than the line of
+    that bracket. The program names one that is open at the end, and looks at no layout."""
+    begin, end = (tuple(map(int, found)) for found in (*OPEN.findall(line), *re.findall(r":(\d+):(\d+): ", line)[:1]))
+    opened: List[Tuple[int, int, int]] = []
+    for token in (token for token in tokens if token.kind != "comment" and token.text in ("(", ")")):
+        place, before = line_and_column(text, token.start), text[: token.start].rpartition(b"\n")[2]
+        if begin < place < end and token.text == "(":
+            opened.append((*place, len(before) - len(before.lstrip())))
+        elif begin < place < end and opened:
+            row, column, indent = opened.pop()
+            if row < place[0] and not before.strip() and len(before) < indent:
+                return ". By the layout, the ( of %d:%d lacks its )" % (row, column)
+    return ""
 
 
 def with_file(line: str, script: str) -> str:
