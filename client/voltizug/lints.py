@@ -35,7 +35,7 @@ def lints(bench: Bench, has_all: bool = False) -> List[str]:
         return ["%s has more than {:,} bytes, and is not looked at".format(LARGEST) % named(bench.script)] if has_all else []
     places, outcomes = bench.places(), bench.outcomes() if has_all or bench.size <= MANY else []
     tokens = [token for token in places.tokens if token.kind != "comment"]
-    found = [*misused(tokens), *unset_slices(places), *bare_commands(places, tokens), *plain_braces(tokens)]
+    found = [*misused(tokens), *unset_slices(places), *bare_commands(places, tokens), *plain_braces(tokens), *late_takings(places)]
     found += stopping_calls(places, bench, [start for start, _ in found]) if has_all or bench.size <= MANY else []
     found += strange_strings(places, outcomes, tokens) if has_all or bench.size >= FEW else []
     beyond = [token for token in tokens if has_all and token.kind == "literal" and not token.text.isascii()]
@@ -72,9 +72,9 @@ def misused(tokens: Sequence[Token]) -> Iterable[Tuple[int, str]]:
 def bare_commands(places: Places, tokens: Sequence[Token]) -> Iterable[Tuple[int, str]]:
     """A routine that changes something and may fail, or ( .. or such a routine ), without `do` and before something else in an external."""
     declared = takewhile(lambda token: token.text != ")", dropwhile(lambda token: token.text != "externals", tokens))
-    doubtful = [name for name in may_fail(places) if not {token.text for token in places.part(name)}.isdisjoint(CHANGING)]
+    doubtful = may_fail(places) & those_with(CHANGING, places)
     what = "if {0} fails, nothing after it in {1} runs: do {0} is meant, perhaps"
-    for name in [token.text for token in declared if token.text in places.of_kind("routine")]:
+    for name in [token.text for token in declared if places.kind(token.text) == "routine"]:
         part = places.part(name)[BODY:]
         for i, end in bare(part):
             if part[end].text in doubtful or i < end and part[end - 2].text == "or" and part[end - 1].text in doubtful:
@@ -94,10 +94,9 @@ def bare(part: Sequence[Token]) -> Iterable[Tuple[int, int]]:
 def may_fail(places: Places) -> Set[str]:
     """Returns the routines that may fail, as far as that is plain: what they do after `do`, `try` or `repeat` does not count."""
     parts = {name: unsure(places.part(name)[BODY:]) for name in places.of_kind("routine")}
-    tests = [*FAILING, *places.of_kind("grouping")]
+    tests = {*FAILING, *places.of_kind("grouping")}
     first = [name for name, part in parts.items() if any(token.kind == "literal" or token.text in tests for token in part)]
-    callers = {name: {other for other, part in parts.items() if any(token.text == name for token in part)} for name in parts}
-    return reached(first, callers)
+    return reached(first, callers({name: {token.text for token in part} for name, part in parts.items()}))
 
 
 def unsure(part: Sequence[Token]) -> List[Token]:
@@ -119,7 +118,8 @@ def stopping_calls(places: Places, bench: Bench, known: Sequence[int]) -> Iterab
     """A routine that does more than test, is called once, without `do`, and fails for most words, so that what comes after it does not run."""
     parts = {name: places.part(name)[BODY:] for name in places.of_kind("routine")}
     calls = Counter(token.text for part in parts.values() for token in part)
-    doubtful = [name for name in may_fail(places) if calls[name] == 1 and is_moving(parts[name])]
+    doing = may_fail(places) & those_with((*CHANGING, *MOVING), places)
+    doubtful = [name for name in doing if calls[name] == 1 and {"test", "not"}.isdisjoint(token.text for token in parts[name][:2])]
     found = [(name, part, i) for name, part in parts.items() for i, end in bare(part) if part[end].text in doubtful and part[i].start not in known]
     counts = {(row.name, getattr(row, "k", "")): int(row.count) for row in (bench.read("counts") if found else []) if row.kind in ("routine", "among")}
     what = "{0} fails for {1:,} of {2:,} words, and then nothing after it in {3} runs: do {0} is meant, perhaps"
@@ -132,10 +132,30 @@ def stopping_calls(places: Places, bench: Bench, known: Sequence[int]) -> Iterab
             yield part[i].start, what.format(part[i].text, came - went, came, name)
 
 
-def is_moving(part: Sequence[Token]) -> bool:
-    """Whether a body changes something, or moves the cursor, and is no test as a whole."""
-    texts = [token.text for token in part]
-    return not {*CHANGING, *MOVING}.isdisjoint(texts) and {"test", "not"}.isdisjoint(texts[: 1 + (texts[0] == "(")])
+def those_with(words: Sequence[str], places: Places) -> Set[str]:
+    """Returns the routines that have one of these words, or call such a routine."""
+    texts = {name: {token.text for token in places.part(name)[BODY:]} for name in places.of_kind("routine")}
+    return reached([name for name, part in texts.items() if not part.isdisjoint(words)], callers(texts))
+
+
+def callers(texts: Dict[str, Set[str]]) -> Dict[str, Set[str]]:
+    """Returns by routine those that call it, by what is in each."""
+    found: Dict[str, Set[str]] = {name: set() for name in texts}
+    for name, part in texts.items():
+        for other in part & found.keys():
+            found[other].add(name)
+    return found
+
+
+def late_takings(places: Places) -> Iterable[Tuple[int, str]]:
+    """A command that takes the slice directly after a routine that sets another one and takes that."""
+    parts = {name: places.part(name)[BODY:] for name in places.of_kind("routine")}
+    own = {name for name, part in parts.items() for texts in [{token.text for token in part}] if "[" in texts and not texts.isdisjoint(TAKING[:2])}
+    what = "{0} sets a slice of its own and takes it, so this {1} comes too late: {1} before {0} is meant, perhaps"
+    for part in parts.values():
+        for before, token in zip(part, part[1:]):
+            if before.text in own and token.text in TAKING[:2]:
+                yield token.start, what.format(before.text, token.text)
 
 
 def plain_braces(tokens: Sequence[Token]) -> Iterable[Tuple[int, str]]:
@@ -149,11 +169,8 @@ def unset_slices(places: Places) -> Iterable[Tuple[int, str]]:
     """The first command of a routine that takes the slice, if there is no [ or no ] in the routine, in what it calls, and in what calls it."""
     parts = {name: places.part(name)[2:] for name in places.of_kind("routine")}
     calls = {name: {token.text for token in part}.intersection(parts) for name, part in parts.items()}
-    callers: Dict[str, Set[str]] = {name: set() for name in parts}
-    for name, other in [(name, other) for name, others in calls.items() for other in others]:
-        callers[other].add(name)
     having = {sign: [name for name, part in parts.items() if any(token.text == sign for token in part)] for sign in "[]"}
-    there = {sign: reached(having[sign], calls) | reached(having[sign], callers) for sign in "[]"}
+    there = {sign: reached(having[sign], calls) | reached(having[sign], callers(calls)) for sign in "[]"}
     for name, part in parts.items():
         lacking = [sign for sign in "[]" if name not in there[sign]]
         for token in [token for token in part if token.text in TAKING and lacking][:1]:

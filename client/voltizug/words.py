@@ -188,9 +188,13 @@ def unknown(line: str, bench: Stage) -> str:
     if strange:
         return strange.format(c=command, called=named(CALLED))
     if command in ("among", "uses"):
-        known = " " + amongs_of(line, bench) if bench.places().kind(argument.partition(" ")[0]) == "routine" else ""
+        (name, _, string), places = argument.partition(" "), bench.places()
+        entry = next((key for key in places.entries if key[0] == name and string in (key[2], "'%s'" % key[2])), None) if command == "uses" else None
+        known = " " + amongs_of(line, bench) if places.kind(name) == "routine" else ""
+        if entry:
+            return "%s is a string of an among: uses %s %s %s." % (short(string), *map(short, entry))
         if known.endswith("no among."):
-            return known.strip()
+            return known.strip() + ' Use "uses %s".' % short(name) * (command == "uses")
         lacks = "a number" if known else "a name and a number" if command == "among" else "a name"
         usage = "among NAME K, then an among, then a line with a single point" if command == "among" else COMMANDS["uses"].usage
         return "%s needs %s: %s.%s" % (command, lacks, usage, known)
