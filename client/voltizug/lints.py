@@ -7,6 +7,7 @@ from typing import Dict, Iterable, List, Sequence, Set, Tuple
 
 from .bench import Bench
 from .conditions import BODY
+from .editor.names import Names
 from .layout import counted, in_words, named, short
 from .places import LARGEST, Places, line_and_column
 from .rows import Outcome, Token
@@ -38,6 +39,7 @@ def lints(bench: Bench, has_all: bool = False) -> List[str]:
     found = [*misused(tokens), *unset_slices(places), *bare_commands(places, tokens), *plain_braces(tokens), *late_takings(places)]
     found += stopping_calls(places, bench, [start for start, _ in found]) if has_all or bench.size <= MANY else []
     found += strange_strings(places, outcomes, tokens) if has_all or bench.size >= FEW else []
+    found += wrong_ways(places, bench, outcomes) if outcomes and places.entries else []
     beyond = [token for token in tokens if has_all and token.kind == "literal" and not token.text.isascii()]
     others = " (and {})".format(counted(len(beyond) - 1, "more literal")) if len(beyond) > 1 else ""
     what = "%s has a letter beyond ASCII%s: other compilers ask for a stringdef"
@@ -208,6 +210,27 @@ def strange_strings(places: Places, outcomes: Sequence[Outcome], tokens: Sequenc
         strange = " ".join(sorted(set(string) - there))
         if strange:
             yield int(row.start), "'%s' has %s, which no word has and no command puts in" % (short(string), short(strange))
+
+
+def wrong_ways(places: Places, bench: Bench, outcomes: Sequence[Outcome]) -> Iterable[Tuple[int, str]]:
+    """Amongs of which most strings are taken in no run, and are only at that end of words from which the among does not go."""
+    untaken = {(row.name, row.k, row.string) for row in bench.read("counts") if row.kind == "entry" and row.count == "0"}
+    strings: Dict[Tuple[str, str], List[str]] = {}
+    for name, k, string in places.entries:
+        strings.setdefault((name, k), []).append(string)
+    sizes = {len(string) for _, _, string in places.entries} - {0}
+    begins, ends = ({way(row.word, size) for row in outcomes for size in sizes} for way in (lambda word, size: word[:size], lambda word, size: word[-size:]))
+    items = Names(places.tokens).items
+    what = {
+        False: "{0} runs forwards, and {1} of these strings, as '{2}', only end words: define {0} in backwardmode, and backwards {0}, is meant, perhaps",
+        True: "{0} runs backwards, and {1} of these strings, as '{2}', only begin words: a define outside of backwardmode is meant, perhaps",
+    }
+    for (name, k), there in ((key, there) for key, there in strings.items() if key[0] in items):
+        start, is_back = int(places.amongs[name, k].start), items[name].is_backward
+        near, far = (ends, begins) if is_back else (begins, ends)
+        odd = [string for string in there if (name, k, string) in untaken and string in far and string not in near]
+        if 2 * len(odd) >= max(4, len(there)) and not any(token.text == "backwards" and token.start < start for token in places.part(name)):
+            yield start, what[is_back].format(name, len(odd), short(odd[0]))
 
 
 def strange_words(places: Places, outcomes: Sequence[Outcome], tokens: Sequence[Token]) -> List[str]:
