@@ -211,8 +211,8 @@ class Desk:
         self.screen.say("The %s dropped." % lines if count else "")
 
     def show_fault(self, said: Sequence[str]) -> None:
-        script, is_open = self.bench.script, any(map(faults.is_open, said))
-        tokens = self.bench.file_tokens(not self.bench.is_waiting) if is_open else []
+        script = self.bench.script
+        tokens = self.bench.file_tokens(not self.bench.is_waiting) if faults.needs_tokens(said) else []
         # (the line of the script and its carets, which are indented, are not broken)
         for line in faults.shown(said, script, kept.read_file(script), self.screen.size().columns, tokens):
             self.screen.write([line], is_text=line.startswith(faults.INDENT))

@@ -18,7 +18,6 @@ CODE = re.compile(r"snowbench: (\d+) (\w+)")
 NO_EXTERNAL = ": the script declares no external: "
 NEGATED = re.compile(r": non_?([A-Za-z][A-Za-z0-9_]*) is not declared\. (?:Did you mean non\?|Declare )")
 OPEN = re.compile(r"; the \( of (\d+):(\d+) is still open\Z")
-COMMENT = re.compile(rb"//[^\n]*|/\*.*?\*/", re.S)
 
 
 def code_of(said: Sequence[str]) -> int:
@@ -45,12 +44,13 @@ def place_of(said: Sequence[str], *names: str) -> Place:
 
 
 def shown(said: Sequence[str], script: str, text: Optional[bytes], width: int, tokens: Sequence[Token] = ()) -> List[str]:
-    """Returns the lines on a fault, and the line of the script with carets cut to the window. Tokens are needed only if a bracket is open."""
+    """Returns the lines on a fault, and the line of the script with carets cut to the window. Tokens are those of the script, if they
+    are needed."""
     lines = [with_file(line, script) for line in said if not CODE.match(line)]
     lines = [line + advice(line, *[*lines[i + 1 : i + 3], "", ""][:2], text or b"") for i, line in enumerate(lines)]
-    lines = [line.replace(NO_EXTERNAL, lacking(text or b"")) if line.startswith(script + NO_EXTERNAL) else line for line in lines]
-    lines = [negated(line, text or b"") for line in lines]
-    lines = [line + by_layout(line, text or b"", tokens) if line.startswith(script + ":") and is_open(line) else line for line in lines]
+    lines = [line.replace(NO_EXTERNAL, lacking(text, tokens)) if line.startswith(script + NO_EXTERNAL) else line for line in lines]
+    lines = [negated(line, tokens) for line in lines]
+    lines = [line + by_layout(line, text or b"", tokens) if line.startswith(script + ":") and OPEN.search(line) else line for line in lines]
     if (text or b"").startswith(BOM):
         lines = without_mark(lines, script)
     lines = [line if line.startswith(INDENT) else re.sub(r"\w{61,}", lambda name: short(name[0]), line) for line in map(named, lines)]
@@ -77,22 +77,24 @@ def advice(line: str, source: str, carets: str, text: bytes) -> str:
     return "." + meant(word, ITEMS) if " can only be in a literal" in line and word not in ITEMS and meant(word, ITEMS) else ""
 
 
-def lacking(text: bytes) -> str:
+def needs_tokens(said: Sequence[str]) -> bool:
+    """Whether more can be said of a fault by the tokens of the script."""
+    return any(NO_EXTERNAL in line or NEGATED.search(line) or OPEN.search(line) for line in said)
+
+
+def lacking(text: Optional[bytes], tokens: Sequence[Token]) -> str:
     """Returns what is said of a text that declares no external: whether it has anything at all."""
-    is_empty = not text.removeprefix(BOM).strip()
-    return ": the script is empty: " if is_empty else ": the script has only comments: " if not COMMENT.sub(b"", text.removeprefix(BOM)).strip() else NO_EXTERNAL
+    if text is not None and not text.removeprefix(BOM).strip():
+        return ": the script is empty: "
+    return ": the script has only comments: " if tokens and all(token.kind == "comment" for token in tokens) else NO_EXTERNAL
 
 
-def negated(line: str, text: bytes) -> str:
+def negated(line: str, tokens: Sequence[Token]) -> str:
     """Returns the line on a name that is not declared; if it is `non` and the name of a grouping, with the question whether these are meant."""
     found = NEGATED.search(line)
-    is_known = found and re.search(rb"\bdefine\s+%s\b(?!\s+as\b)" % found[1].encode(), text)
+    texts = [token.text for token in tokens if token.kind != "comment"]
+    is_known = found and any(three[:2] == ("define", found[1]) and three[2] != "as" for three in zip(texts, texts[1:], texts[2:]))
     return line[: found.end(1)] + " is not declared. Did you mean non %s?" % found[1] if found and is_known else line
-
-
-def is_open(line: str) -> bool:
-    """Whether a line names a bracket that is still open."""
-    return bool(OPEN.search(line))
 
 
 def by_layout(line: str, text: bytes, tokens: Sequence[Token]) -> str:

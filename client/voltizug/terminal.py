@@ -100,8 +100,9 @@ class Terminal(Desk):
 
     def keep_report(self, line: str, path: str, shown: Sequence[str]) -> None:
         """Writes a report to a file; to one that is there only if the line is typed again."""
+        may_be = os.path.isfile(path) and os.access(path, os.W_OK)
         is_own = any(kept.is_same(path, own) for own in (self.bench.script, self.bench.words))
-        is_again, self.doubted = self.doubted == line and os.path.isfile(path) and not is_own, line
+        is_again, self.doubted = self.doubted == line and may_be and not is_own, line
         if screen.to_file(path, shown, is_again):
             self.doubted = ""
             self.screen.say("%s in %s" % (counted(len(shown), "line"), short(path)))

@@ -235,7 +235,8 @@ def not_written(command: str, path: str, bench: Stage, is_again: bool = False) -
         (command == "append" and is_there and not is_list, "no words"),
         (os.path.realpath(path) == os.path.realpath(bench.script) and not os.path.lexists(path), "gone"),
         (not os.path.isdir(folder), "no folder"), (os.path.isdir(path), "folder"),
-        (command in REPORTING and is_there and not is_again, "again?" if os.path.isfile(path) else "there"), (not os.access(path if is_there else folder, os.W_OK), "closed"),
+        (not os.access(path if is_there else folder, os.W_OK), "closed"),
+        (command in REPORTING and is_there and not is_again, "again?" if os.path.isfile(path) else "there"),
         (path in bench.saved() or is_script, "changed"), (is_there, "full, there"), (True, "full"),
     ) if is_so), command, path)
 
