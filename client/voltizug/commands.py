@@ -58,6 +58,7 @@ STRANGE: Sequence[Tuple[str, str]] = (
     *((r"%s( |\Z)" % verb, "{c} is not a command here. In a shell: {called} {c} %s." % files) for verb, files in IN_SHELL.items()),
     (r"(%s)\s*>" % "|".join(REPORTING), "A report goes into a file by > FILE, with blanks around the >, as in: classes > my.classes."),
     (COMMENT, "A comment begins with # at the beginning of the line. replace takes a whole script, up to a line with a single point."),
+    (r"\s*[\[\](')]", "This is no command, but of a script, perhaps, and no block is open: routine NAME, among NAME K or grouping NAME opens one."),
     (r"define( |\Z)", "A definition begins with define NAME as, or define NAME and the terms of a grouping, in one line."),
     (DECLARATION, "This looks like a script. replace takes a whole one, up to a line with a single point."),
     (r"\s+(%s)( |\Z)" % "|".join(COMMANDS), "A command begins at the beginning of the line."),
