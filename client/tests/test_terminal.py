@@ -60,6 +60,21 @@ class Sessions(Case):
         self.assertIn("my.sbl:2:43: 'q' has q, which no word has and no command puts in", shown)
         self.assertIn("'é' has a letter beyond ASCII", shown)
 
+    def test_a_warning_is_told_once_also_of_a_typed_edit(self):
+        script = "externals ( stem ) routines ( r )\ndefine r as ( [ ] delete )\ndefine stem as ( do r )\n"
+        terminal, said = self.begin(script, "abx\nab\n"), "the slice is empty here: it has no character to delete"
+        self.assertIn("my.sbl:2:15: " + said, self.start)
+        terminal.save("// moved\n" + script)
+        self.assertEqual(terminal.enter(""), "no word and no class differs from the mark")
+        self.assertEqual(terminal.enter("lint"), "my.sbl:3:15: " + said)
+        terminal.save(script.replace("do r", "do r do ( [ ] delete )"))
+        self.assertEqual(terminal.enter("").split("\n")[:-1], ["my.sbl:2:15: " + said, "my.sbl:3:28: " + said])
+        terminal.save(script.replace("[ ] delete", "['x'] delete"))
+        terminal.enter("")
+        shown = terminal.enter("routine r", "( do ( ['b'] delete )", "  [ ] delete )", ".")
+        self.assertIn("not in my.sbl: line 2 of r: " + said, shown)
+        self.assertNotIn("not in", terminal.enter("routine stem", "( do r )", "."))
+
     def test_lints_on_alternatives_and_macros(self):
         script = "stringescapes {}\nstringdef oe hex 'F8'\nexternals ( stem )\nroutines ( a b )\ndefine a as ( [ among ( '{oe}' 'zz' ) ] <- 'o' )\ndefine b as 'b'\n%s\n"
         terminal = self.begin(script % "define stem as ( do a or b )", "abo\nb\u00f8k\n")

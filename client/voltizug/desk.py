@@ -1,11 +1,12 @@
 """The bench at a terminal: the start, which waits until no file has a fault, and what is shown of replies, edits and a program that is gone."""
 import os
 import re
+from collections import Counter
 from typing import Any, Dict, List, Optional, Sequence
 
 from . import faults, kept, layout, lints, loops, rows, warn, words
 from .bench import Bench
-from .commands import COMMENT, DECLARATION
+from .commands import BLOCKS, COMMENT, DECLARATION, OPEN_BLOCKS
 from .completion import Completion
 from .keys import Editor, Hangup
 from .layout import counted, in_words, short, sizes
@@ -15,6 +16,8 @@ from .screen import Screen
 
 # After so many lines, one after another, that are no command and came faster than one types, the rest is dropped.
 NONSENSE = 5
+# What becomes another one in a warning if something else is edited: its place, and figures.
+VARYING = re.compile(r"\A.+?:\d+:\d+: |\Anot in .+?: line \d+ of \w+: |[\d,]+ of [\d,]+ words")
 # Faults of the script have smaller numbers; the status after Ctrl-C at the start.
 LEAST, INTERRUPTED = 25, 130
 # Faults of the words, and what is said of them.
@@ -219,8 +222,9 @@ class Desk:
 
     def new_lints(self) -> List[str]:
         """Returns what was not meant, perhaps, and was not there before. (A mistake that comes back is told again.)"""
-        before, self.linted = self.linted, lints.lints(self.bench)
-        return [line for line in self.linted if line not in before]
+        known, self.linted = Counter(VARYING.sub("", line) for line in self.linted), lints.lints(self.bench)
+        known.subtract(VARYING.sub("", line) for line in self.linted)
+        return [line for line in self.linted if known[VARYING.sub("", line)] < 0]
 
     def warn(self, path: Optional[str] = None) -> bool:
         """Gives the warnings on the script, and on a list of words, that were not given before. Returns whether there is one."""
@@ -246,7 +250,7 @@ class Desk:
             self.warn()
         own = edit.changes if edit.own is None else edit.own
         refused = [row.word for row in own if row.kind == "changed" and row.new_kind == "refused" and row.new in loops.NAMES]
-        tail = [*(self.new_lints() if is_reload else []), self.turning(refused[0]) if refused else ""]
+        tail = [*(self.new_lints() if is_reload or edit.command in (*BLOCKS, *OPEN_BLOCKS) else []), self.turning(refused[0]) if refused else ""]
         note = words.NOTES.get(edit.note, "").format(script=short(self.bench.script))
         last = self.screen.broken([line for line in [*tail, note, self.note_words(), layout.families_line(edit.pairs), layout.summary(edit)] if line])
         size = self.screen.size()

@@ -74,6 +74,9 @@ def advice(line: str, source: str, carets: str, text: bytes) -> str:
         name = source[carets.index("^") + 1 :].partition("}")[0]
         names = re.findall(r"\bstringdef\s+(\S+)", text.decode("utf-8", "replace"))
         return ". A } is missing, perhaps" if " " in name else "." * bool(near(name, names)) + meant(name, names)
+    unknown = re.search(r": (\w+) is not declared\. Declare it\b.*, or use another name\.\Z", line)
+    if unknown and re.search(r"(\[\s*|<-\s*|<\+\s*)%s\b" % unknown[1], source):
+        return " If letters are meant: '%s'." % short(unknown[1])
     return "." + meant(word, ITEMS) if " can only be in a literal" in line and word not in ITEMS and meant(word, ITEMS) else ""
 
 

@@ -44,10 +44,16 @@ def lints(bench: Bench, has_all: bool = False) -> List[str]:
     others = " (and {})".format(counted(len(beyond) - 1, "more literal")) if len(beyond) > 1 else ""
     what = "%s has a letter beyond ASCII%s: other compilers ask for a stringdef"
     found += [(token.start, what % (short(token.text), others)) for token in beyond[:1]]
-    shown = ["%s:%d:%d: %s" % (named(bench.script), *line_and_column(places.text, start), what) for start, what in sorted(found)]
+    shown = ["%s: %s" % (named(spot(places, start)), what) for start, what in sorted(found)]
     more = len(shown) - MOST if not has_all else 0
     shown = shown[: len(shown) - max(0, more)] + ['.. and {:,} more: "lint" shows all'.format(more)] * (more > 0)
     return shown + strange_words(places, outcomes, tokens)
+
+
+def spot(places: Places, start: int) -> str:
+    """Returns the place of a byte of the text in force, in SCRIPT or in what was typed."""
+    home = next((name for name, row in places.definitions.items() if int(row.start) <= start < int(row.end)), "")
+    return places.at(home, start) if home else "%s:%d:%d" % (places.script, *line_and_column(places.text, start))
 
 
 def misused(tokens: Sequence[Token]) -> Iterable[Tuple[int, str]]:
