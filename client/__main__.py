@@ -21,6 +21,6 @@ if cache():
     sys.pycache_prefix, sys.dont_write_bytecode = cache(), False
 
 # (by a first word that is no file: the verbs of ./snowbench that are no terminal)
-FACES = {"--lsp": "editor.lsp", "--page": "page.serve", "--report": "page.report"}
+FACES = {"--lsp": "editor.lsp", "--page": "page.serve", "--report": "page.report", "--converting": "warn"}
 face = FACES.get(sys.argv[1]) if len(sys.argv) > 1 else None
 sys.exit(importlib.import_module("voltizug." + (face or "terminal")).main(sys.argv[2 if face else 1 :]))

@@ -60,6 +60,21 @@ class Sessions(Case):
         self.assertIn("my.sbl:2:43: 'q' has q, which no word has and no command puts in", shown)
         self.assertIn("'é' has a letter beyond ASCII", shown)
 
+    def test_a_warning_is_told_once_also_of_a_typed_edit(self):
+        script = "externals ( stem ) routines ( r )\ndefine r as ( [ ] delete )\ndefine stem as ( do r )\n"
+        terminal, said = self.begin(script, "abx\nab\n"), "the slice is empty here: it has no character to delete"
+        self.assertIn("my.sbl:2:15: " + said, self.start)
+        terminal.save("// moved\n" + script)
+        self.assertEqual(terminal.enter(""), "no word and no class differs from the mark")
+        self.assertEqual(terminal.enter("lint"), "my.sbl:3:15: " + said)
+        terminal.save(script.replace("do r", "do r do ( [ ] delete )"))
+        self.assertEqual(terminal.enter("").split("\n")[:-1], ["my.sbl:2:15: " + said, "my.sbl:3:28: " + said])
+        terminal.save(script.replace("[ ] delete", "['x'] delete"))
+        terminal.enter("")
+        shown = terminal.enter("routine r", "( do ( ['b'] delete )", "  [ ] delete )", ".")
+        self.assertIn("not in my.sbl: line 2 of r: " + said, shown)
+        self.assertNotIn("not in", terminal.enter("routine stem", "( do r )", "."))
+
     def test_lints_on_alternatives_and_macros(self):
         script = "stringescapes {}\nstringdef oe hex 'F8'\nexternals ( stem )\nroutines ( a b )\ndefine a as ( [ among ( '{oe}' 'zz' ) ] <- 'o' )\ndefine b as 'b'\n%s\n"
         terminal = self.begin(script % "define stem as ( do a or b )", "abo\nb\u00f8k\n")
@@ -85,6 +100,28 @@ class Sessions(Case):
             terminal.save(script % body)
             terminal.enter("")
             self.assertNotIn("fails, nothing after it", terminal.enter("lint"))
+
+    def test_a_call_that_stops_the_rest(self):
+        """Only if it may fail and changes something, or moves the cursor and fails for most words; a test may be meant to stop all."""
+        script = "externals ( stem ) routines ( a b c )\nintegers ( p ) groupings ( v )\ndefine v 'aeiou'\ndefine a as ( %s )\ndefine b as %s\n"
+        script += "define c as ( [ 'y' ] delete )\ndefine stem as ( %s )\n"
+        moves, marks, changes = "gopast v", "gopast v setmark p", "[ 'b' ] delete"
+        if_fails, fails = "my.sbl:7:18: if a fails, nothing after it in stem runs", "%s: a fails for 3 of 4 words, and then nothing after it in %s runs"
+        terminal = self.begin(script % (marks, "true", "a do c"), "by\nsky\nfly\nday\n")
+        self.assertIn(if_fails + ": do a is meant, perhaps", self.start)
+        for a, b, stem, said in (
+            (moves, "true", "a do c", fails % ("my.sbl:7:18", "stem")), (changes, "( a c )", "do b", fails % ("my.sbl:5:15", "b")),
+            (changes, "( a [substring] among ( 'y' (delete) ) )", "do b", fails % ("my.sbl:5:15", "b")),
+            ("$p = limit do ( %s )" % marks, "true", "a do c", ""), ("( %s ) or true" % marks, "true", "a do c", ""),
+            ("test " + moves, "true", "a do c", ""), ("not " + moves, "true", "a do c", ""), (moves, "true", "do a do c", ""),
+            (changes, "( a or c )", "do b", ""), (changes, "( a c ) or true", "do b", ""), (changes, "( try a c )", "do b", ""),
+            (changes, "( a 'x' c )", "do b", ""), (changes, "( a c )", "do a do b", ""), (changes, "( true a )", "do b", ""),
+        ):
+            with self.subTest(a=a, b=b, stem=stem):
+                terminal.save(script % (a, b, stem))
+                terminal.enter("")
+                found = [line for line in terminal.enter("lint").replace("\n    ", " ").split("\n") if " after it in " in line]
+                self.assertEqual(found, [said + ": do a is meant, perhaps"] if said else [])
 
     def test_lint_has_the_warnings_on_the_files(self):
         terminal = self.begin(words="cats \ndogs\n")
@@ -174,9 +211,32 @@ define stem as backwards ( do r do s )
             self.assertEqual(terminal.enter(line), "A report goes into a file by > FILE, as in: classes > my.classes. There are no pipes here.")
         self.assertEqual(terminal.enter("find >"), "no word and no stem has it")
         self.assertEqual(terminal.enter("classes > out"), "3 lines in out")
-        there = "out is there already, and classes does not overwrite it. Nothing was written: name a new file, or delete that one first."
+        there = "out is there already. Nothing was written: the same line again overwrites it."
         self.assertEqual(terminal.enter("classes > out"), there)
+        self.assertEqual(terminal.enter("classes", "classes > out"), there)
+        self.assertEqual(terminal.enter("stats > out", "classes > out"), there)
+        terminal.save("mine", "out")
+        os.chmod(os.path.join(self.folder, "out"), 0o640)
+        self.assertEqual(terminal.enter("classes > out"), "3 lines in out")
+        self.assertEqual(os.stat(os.path.join(self.folder, "out")).st_mode & 0o777, 0o640)
+        self.assertEqual(terminal.enter("classes > out"), there)
+        for path in ("my.sbl", "my.words"):
+            self.assertIn("and classes does not overwrite it", terminal.enter("classes > " + path, "classes > " + path))
+        self.assertIn("/dev/null is there already, and classes does not overwrite it", terminal.enter("classes > /dev/null", "classes > /dev/null"))
         self.assertEqual(terminal.enter("stats > state"), "state cannot be written: it is a folder. Name a file in it.")
+
+    def test_the_number_of_an_among_is_asked_for(self):
+        terminal = self.begin(AUTHOR.replace("'ss' ()", "'ss' ( [ among ( 'x' (delete) ) ] )"))
+        asked = terminal.type("among plural\r", rb"\? $").split("\n")[-1]
+        self.assertEqual(asked, "Which among of plural, 1 (my.sbl:6:34) or 2 (my.sbl:6:69)? ")
+        self.assertEqual(terminal.enter(""), "Nothing was done.")
+        terminal.type("among plural\r", rb"\? $")
+        self.assertIn("plural has 2 amongs, so K is 1 or 2", terminal.enter("3"))
+        terminal.type("among plural\r", rb"\? $")
+        terminal.type("\x03")
+        terminal.type("among plural\r", rb"\? $")
+        self.assertEqual(terminal.enter("2", "among ( 'y' (delete) )", "."), "no word and no class differs from the mark")
+        self.assertEqual(terminal.enter("undo"), "taken back: among plural 2; no word and no class differs from the mark")
 
     def test_tab_completes(self):
         terminal = self.begin()
@@ -272,7 +332,39 @@ class Traps(Case):
         terminal.save(AUTHOR.replace("'ity' ", ""))
         self.assertNotIn("declares no external", terminal.got(rb"since the mark"))
         terminal.save("")
-        self.assertIn("my.sbl: the script declares no external", terminal.got(rb"Correct it"))
+        self.assertIn("my.sbl: the script is empty", terminal.got(rb"Correct it"))
+
+    def test_a_watched_file_that_is_gone(self):
+        """It is said once, what is in force stays, and the file is read when it is there again, also with its former text."""
+        terminal = self.begin()
+        terminal.enter("routine plural", "true", ".")
+        script, other = (os.path.join(self.folder, name) for name in ("my.sbl", "other.sbl"))
+        terminal.type("class glas", rb"glas$")
+        os.rename(script, other)
+        gone = "my.sbl is gone (deleted or renamed). The script in force stays: save FILE keeps it. When my.sbl is there again, it is read."
+        self.assertIn(gone, " ".join(terminal.got(rb"read\.\n(.|\n)*glas$", 5).replace("\n    ", " ").split("\n")))
+        self.assertIn("glass: glass", terminal.type("s\r"))
+        self.assertEqual(terminal.got(None, 1.5), "")
+        os.rename(other, script)
+        self.assertIn("my.sbl is there again.\n> ", terminal.got(rb"again\.\n> $", 5))
+        os.remove(script)
+        self.assertIn("my.sbl is gone", terminal.got(rb"read\.\n> $", 5))
+        terminal.save(AUTHOR.replace("'ity' ", ""))
+        shown = terminal.got(rb"since the mark", 5)
+        self.assertRegex(shown, r"my.sbl is there again.\n(.|\n)* univers -> university")
+        self.assertIn("put aside: plural", terminal.got(None, 0.3) + shown)
+
+    def test_words_that_are_gone_and_a_script_with_a_fault_that_is(self):
+        terminal = self.begin()
+        os.remove(os.path.join(self.folder, "my.words"))
+        self.assertIn("my.words is gone (deleted or renamed). The words that were read stay.\n", terminal.got(rb"stay\.\n> $", 5))
+        terminal.save("news\n", "my.words")
+        self.assertIn("my.words is there again.\nmy.words has changed: words reads it again.", terminal.got(rb"reads it again\.\n> $"))
+        terminal = self.begin(script="define")
+        os.remove(os.path.join(self.folder, "my.sbl"))
+        self.assertIn("my.sbl is gone (deleted or renamed). It is read when it is there again.\n", terminal.got(rb"there again\.\n> $", 5))
+        terminal.save(AUTHOR)
+        self.assertIn("my.sbl is there again.\n8 words", terminal.got(rb"refused\n> $"))
 
     def test_ctrl_c_drops_lines_and_none_besides(self):
         terminal = self.begin()

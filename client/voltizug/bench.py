@@ -6,7 +6,11 @@ from typing import Any, Callable, Dict, List, NamedTuple, Optional, Sequence, Se
 from . import rows
 from .kept import FileState, Kept, is_same, read_file, state_of
 from .places import LARGEST, Places
-from .program import BROKEN, DONE, ENDED, USUAL_LIMIT, Moment, Program, Reply
+from .program import BROKEN, DONE, ENDED, USUAL_LIMIT, Memory, Moment, Program, Reply
+
+# After so many seconds a file that is not there is gone: no editor is just saving it.
+GONE = 1
+
 
 class Edit(NamedTuple):
     """What an edit did: what differs from the mark now, and what it changed itself, if that may differ. `step` is what undo or redo did; `aside` are
@@ -30,6 +34,8 @@ class Stage:
         # The states of the files when they were read, and the text that SCRIPT had then.
         self.seen: Dict[str, FileState] = {}
         self.file_text: Optional[bytes] = None
+        # Since when files are not there; those of which this was said.
+        self.missed, self.gone = {}, set()  # type: Dict[str, float], Set[str]
         self.known_places: Optional[Places] = None
 
     def saved(self) -> Dict[str, FileState]:
@@ -37,6 +43,18 @@ class Stage:
         now = {path: (state_of(path), state) for path, state in dict(self.seen).items()}
         changed = {path: state for path, (state, before) in now.items() if state and state != before}
         return {path: state for path, state in changed.items() if state[1] or abs(time.time() - state[0] / 1e9) > 1}
+
+    def news(self) -> Dict[str, FileState]:
+        """Returns what is to be said of files: those that were saved, those that are gone (they have no state), and those that are there again."""
+        found = self.saved()
+        for path, before in dict(self.seen).items():
+            state = state_of(path)
+            if state:
+                self.missed.pop(path, None)
+                found.update({path: state} if path in self.gone and state == before else {})
+            elif time.monotonic() - self.missed.setdefault(path, time.monotonic()) > GONE and path not in self.gone:
+                found[path] = None
+        return found
 
     def settled(self, reply: Reply) -> Reply:
         """Returns the reply after what has to be done if the program is gone."""
@@ -59,6 +77,19 @@ class Stage:
             known = self.known_places = Places(self.script, text, self.file_text, self.read("places"), rows.tokens(tokens or []))
         known.note = ", as it was read" if self.script in self.saved() else ""
         return known
+
+    def file_tokens(self, is_begun: bool) -> List[rows.Token]:
+        """Returns the tokens of SCRIPT, whose commands may have faults. If the program is not begun, another one is asked."""
+        if is_begun:
+            return rows.tokens(self.known("tokens " + self.script) or [])
+        least = Memory(b"externals ( stem ) define stem as true\n")
+        other = Program([self.program.command[0], "work", "--text"], least.path, None, "", self.program.bell)
+        try:
+            other.begin([], least.path)
+            reply = other.ask(["tokens " + self.script])
+        finally:
+            other.stop()
+        return rows.tokens(reply.lines) if reply.is_done else []
 
     def outcomes(self) -> List[rows.Outcome]:
         return rows.outcomes(self.known("stems") or [])

@@ -1,11 +1,12 @@
 """The bench at a terminal: the start, which waits until no file has a fault, and what is shown of replies, edits and a program that is gone."""
 import os
 import re
+from collections import Counter
 from typing import Any, Dict, List, Optional, Sequence
 
 from . import faults, kept, layout, lints, loops, rows, warn, words
 from .bench import Bench
-from .commands import COMMENT, DECLARATION
+from .commands import BLOCKS, COMMENT, DECLARATION, OPEN_BLOCKS
 from .completion import Completion
 from .keys import Editor, Hangup
 from .layout import counted, in_words, short, sizes
@@ -15,6 +16,8 @@ from .screen import Screen
 
 # After so many lines, one after another, that are no command and came faster than one types, the rest is dropped.
 NONSENSE = 5
+# What becomes another one in a warning if something else is edited: its place, and figures.
+VARYING = re.compile(r"\A.+?:\d+:\d+: |\Anot in .+?: line \d+ of \w+: |[\d,]+ of [\d,]+ words")
 # Faults of the script have smaller numbers; the status after Ctrl-C at the start.
 LEAST, INTERRUPTED = 25, 130
 # Faults of the words, and what is said of them.
@@ -32,7 +35,7 @@ class Desk:
     def __init__(self, bench: Bench, options: Options):
         self.bench, self.options = bench, options
         self.completion = Completion(bench)
-        self.editor = Editor(bench.kept.history, self.completion.complete, bench.saved if options.is_watching else None, self.show_saved)
+        self.editor = Editor(bench.kept.history, self.completion.complete, bench.news if options.is_watching else None, self.show_saved)
         self.screen = Screen(self.editor, options.color, options.has_pager)
         # Warnings that were given, and lints; lines in a row that are no command; whether WORDS was saved since it was read.
         self.warned, self.linted, self.nonsense, self.has_old_words = [], [], 0, False  # type: List[str], List[str], int, bool
@@ -124,12 +127,21 @@ class Desk:
         return "%s looks like a list of words" % short(self.bench.script) if has_words else ""
 
     def show_saved(self) -> None:
-        """Reads again what was saved."""
-        if self.bench.is_waiting:
+        """Reads again what was saved, and says which files are gone, or there again."""
+        for path, state in self.bench.news().items():
+            if state is None:
+                kind = "waiting" if self.bench.is_waiting else "script" if path == self.bench.script else "words"
+                self.screen.say(words.GONE[kind].format(path=short(path)))
+                self.bench.gone.add(path)
+            elif path in self.bench.gone:
+                self.screen.say("%s is there again." % short(path))
+                self.bench.gone.discard(path)
+        saved = self.bench.saved()
+        if saved and self.bench.is_waiting:
             self.open()
-        elif self.bench.script in self.bench.saved():
+        elif self.bench.script in saved:
             self.edit(["reload"])
-        else:
+        elif saved:
             self.screen.say(self.note_words())
 
     def note_words(self) -> str:
@@ -202,14 +214,17 @@ class Desk:
         self.screen.say("The %s dropped." % lines if count else "")
 
     def show_fault(self, said: Sequence[str]) -> None:
+        script = self.bench.script
+        tokens = self.bench.file_tokens(not self.bench.is_waiting) if faults.needs_tokens(said) else []
         # (the line of the script and its carets, which are indented, are not broken)
-        for line in faults.shown(said, self.bench.script, kept.read_file(self.bench.script), self.screen.size().columns):
+        for line in faults.shown(said, script, kept.read_file(script), self.screen.size().columns, tokens):
             self.screen.write([line], is_text=line.startswith(faults.INDENT))
 
     def new_lints(self) -> List[str]:
         """Returns what was not meant, perhaps, and was not there before. (A mistake that comes back is told again.)"""
-        before, self.linted = self.linted, lints.lints(self.bench)
-        return [line for line in self.linted if line not in before]
+        known, self.linted = Counter(VARYING.sub("", line) for line in self.linted), lints.lints(self.bench)
+        known.subtract(VARYING.sub("", line) for line in self.linted)
+        return [line for line in self.linted if known[VARYING.sub("", line)] < 0]
 
     def warn(self, path: Optional[str] = None) -> bool:
         """Gives the warnings on the script, and on a list of words, that were not given before. Returns whether there is one."""
@@ -235,7 +250,7 @@ class Desk:
             self.warn()
         own = edit.changes if edit.own is None else edit.own
         refused = [row.word for row in own if row.kind == "changed" and row.new_kind == "refused" and row.new in loops.NAMES]
-        tail = [*(self.new_lints() if is_reload else []), self.turning(refused[0]) if refused else ""]
+        tail = [*(self.new_lints() if is_reload or edit.command in (*BLOCKS, *OPEN_BLOCKS) else []), self.turning(refused[0]) if refused else ""]
         note = words.NOTES.get(edit.note, "").format(script=short(self.bench.script))
         last = self.screen.broken([line for line in [*tail, note, self.note_words(), layout.families_line(edit.pairs), layout.summary(edit)] if line])
         size = self.screen.size()

@@ -1,11 +1,12 @@
 """What the program says about a fault, fitted to a window, with columns as an editor counts them, names of files, and advice."""
 import re
-from typing import List, NamedTuple, Optional, Sequence
+from typing import List, NamedTuple, Optional, Sequence, Tuple
 
 from .language import ITEMS
 from .layout import named, short
 from .near import meant, near
-from .places import BOM
+from .places import BOM, line_and_column
+from .rows import Token
 from .words import converting, in_shell, unreadable
 
 INDENT = "    "
@@ -13,6 +14,10 @@ INDENT = "    "
 PLACE = re.compile(r":(\d+):(\d+): (.*)", re.S)
 CANNOT_BE_READ = re.compile(r"snowbench: (.+): [^:]+ \(os error \d+\)")
 CODE = re.compile(r"snowbench: (\d+) (\w+)")
+# What is said of a script without an external; what of `non` and a grouping in one word, if no other name is near it.
+NO_EXTERNAL = ": the script declares no external: "
+NEGATED = re.compile(r": non_?([A-Za-z][A-Za-z0-9_]*) is not declared\. (?:Did you mean non\?|Declare )")
+OPEN = re.compile(r"; the \( of (\d+):(\d+) is still open\Z")
 
 
 def code_of(said: Sequence[str]) -> int:
@@ -38,23 +43,14 @@ def place_of(said: Sequence[str], *names: str) -> Place:
     return Place(int(place[1]), int(place[2]), carets.count("^"), place[3]) if place else Place(0, 0, 0, " ".join(said))
 
 
-def shown(said: Sequence[str], script: str, text: Optional[bytes], width: int) -> List[str]:
-    """Returns the lines on a fault, and the line of the script with carets cut to the window."""
+def shown(said: Sequence[str], script: str, text: Optional[bytes], width: int, tokens: Sequence[Token] = ()) -> List[str]:
+    """Returns the lines on a fault, and the line of the script with carets cut to the window. Tokens are those of the script, if they
+    are needed."""
     lines = [with_file(line, script) for line in said if not CODE.match(line)]
-    for i, line in enumerate(lines[:-1]):
-        word = [*lines[i + 1].split(), ""][0]
-        if text and b"stringescapes" not in text and ": } can only be" in line:
-            lines[i] += ". A literal with {..} needs stringescapes {} above it"
-        elif re.search(r"\w can only be in a literal", line) and lines[i + 1].count("'") % 2:
-            lines[i] += ". Look for a missing quote before it, too"
-        elif " => is of Snowball" in line and re.search(r"\$\s*\w+\s*=>", lines[i + 1]):
-            lines[i] += ". Did you mean >=?"
-        elif line.endswith(" the name that is inserted here") and "^" in "".join(lines[i + 2 : i + 3]):
-            name = lines[i + 1][lines[i + 2].index("^") + 1 :].partition("}")[0]
-            names = re.findall(r"\bstringdef\s+(\S+)", (text or b"").decode("utf-8", "replace"))
-            lines[i] += ". A } is missing, perhaps" if " " in name else "." * bool(near(name, names)) + meant(name, names)
-        elif " can only be in a literal" in line and word not in ITEMS and meant(word, ITEMS):
-            lines[i] += "." + meant(word, ITEMS)
+    lines = [line + advice(line, *[*lines[i + 1 : i + 3], "", ""][:2], text or b"") for i, line in enumerate(lines)]
+    lines = [line.replace(NO_EXTERNAL, lacking(text, tokens)) if line.startswith(script + NO_EXTERNAL) else line for line in lines]
+    lines = [negated(line, tokens) for line in lines]
+    lines = [line + by_layout(line, text or b"", tokens) if line.startswith(script + ":") and OPEN.search(line) else line for line in lines]
     if (text or b"").startswith(BOM):
         lines = without_mark(lines, script)
     lines = [line if line.startswith(INDENT) else re.sub(r"\w{61,}", lambda name: short(name[0]), line) for line in map(named, lines)]
@@ -63,6 +59,61 @@ def shown(said: Sequence[str], script: str, text: Optional[bytes], width: int) -
             at = max(0, carets.index("^") - 4 - width // 2)
             lines[i : i + 2] = [(INDENT + part[4 + at :])[:width].rstrip() for part in (line, carets)]
     return lines
+
+
+def advice(line: str, source: str, carets: str, text: bytes) -> str:
+    """Returns what is said besides after a line on a fault of a text, by the line of the text below it, and the carets."""
+    word = [*source.split(), ""][0]
+    if text and b"stringescapes" not in text and ": } can only be" in line:
+        return ". A literal with {..} needs stringescapes {} above it"
+    if re.search(r"\w can only be in a literal", line) and source.count("'") % 2:
+        return ". Look for a missing quote before it, too"
+    if " => is of Snowball" in line and re.search(r"\$\s*\w+\s*=>", source):
+        return ". Did you mean >=?"
+    if line.endswith(" the name that is inserted here") and "^" in carets:
+        name = source[carets.index("^") + 1 :].partition("}")[0]
+        names = re.findall(r"\bstringdef\s+(\S+)", text.decode("utf-8", "replace"))
+        return ". A } is missing, perhaps" if " " in name else "." * bool(near(name, names)) + meant(name, names)
+    unknown = re.search(r": (\w+) is not declared\. Declare it\b.*, or use another name\.\Z", line)
+    if unknown and re.search(r"(\[\s*|<-\s*|<\+\s*)%s\b" % unknown[1], source):
+        return " If letters are meant: '%s'." % short(unknown[1])
+    return "." + meant(word, ITEMS) if " can only be in a literal" in line and word not in ITEMS and meant(word, ITEMS) else ""
+
+
+def needs_tokens(said: Sequence[str]) -> bool:
+    """Whether more can be said of a fault by the tokens of the script."""
+    return any(NO_EXTERNAL in line or NEGATED.search(line) or OPEN.search(line) for line in said)
+
+
+def lacking(text: Optional[bytes], tokens: Sequence[Token]) -> str:
+    """Returns what is said of a text that declares no external: whether it has anything at all."""
+    if text is not None and not text.removeprefix(BOM).strip():
+        return ": the script is empty: "
+    return ": the script has only comments: " if tokens and all(token.kind == "comment" for token in tokens) else NO_EXTERNAL
+
+
+def negated(line: str, tokens: Sequence[Token]) -> str:
+    """Returns the line on a name that is not declared; if it is `non` and the name of a grouping, with the question whether these are meant."""
+    found = NEGATED.search(line)
+    texts = [token.text for token in tokens if token.kind != "comment"]
+    is_known = found and any(three[:2] == ("define", found[1]) and three[2] != "as" for three in zip(texts, texts[1:], texts[2:]))
+    return line[: found.end(1)] + " is not declared. Did you mean non %s?" % found[1] if found and is_known else line
+
+
+def by_layout(line: str, text: bytes, tokens: Sequence[Token]) -> str:
+    """Returns which bracket lacks its end, perhaps: the first one that is closed by one which begins a line and is farther left than the line of
+    that bracket. The program names one that is open at the end, and looks at no layout."""
+    begin, end = (tuple(map(int, found)) for found in (*OPEN.findall(line), *re.findall(r":(\d+):(\d+): ", line)[:1]))
+    opened: List[Tuple[int, int, int]] = []
+    for token in (token for token in tokens if token.kind != "comment" and token.text in ("(", ")")):
+        place, before = line_and_column(text, token.start), text[: token.start].rpartition(b"\n")[2]
+        if begin < place < end and token.text == "(":
+            opened.append((*place, len(before) - len(before.lstrip())))
+        elif begin < place < end and opened:
+            row, column, indent = opened.pop()
+            if row < place[0] and not before.strip() and len(before) < indent:
+                return ". By the layout, the ( of %d:%d lacks its )" % (row, column)
+    return ""
 
 
 def with_file(line: str, script: str) -> str:

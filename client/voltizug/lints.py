@@ -1,10 +1,13 @@
 """What is legal in a script and words, and may not be meant. By the tokens and the strings that the program tells: no script is read here."""
 import re
 import unicodedata
+from collections import Counter
 from itertools import dropwhile, takewhile
 from typing import Dict, Iterable, List, Sequence, Set, Tuple
 
 from .bench import Bench
+from .conditions import BODY
+from .editor.names import Names
 from .layout import counted, in_words, named, short
 from .places import LARGEST, Places, line_and_column
 from .rows import Outcome, Token
@@ -19,8 +22,12 @@ EMPTY = {"among": "[substring] is meant, perhaps", "<-": "it has no character to
 SURE, NOT_SURE = ("do", "try", "repeat"), ("not", "fail", "for", "and")
 # A routine after one of these may fail.
 GOVERNING = (*SURE, *NOT_SURE, "test", "or", "goto", "gopast", "non", "loop", "atleast")
-# They take the slice.
+# They take the slice; a routine with one of these changes something, with one of those it moves the cursor.
 TAKING = ("delete", "<-", "->")
+CHANGING, MOVING = (*TAKING[:2], "setmark"), ("gopast", "goto", "next", "hop")
+# They may fail. These do not, and what follows them may be a call.
+FAILING = {*MOVING, *"among substring tomark atmark atlimit false fail not non == != < <= > >=".split()}
+PASSING = ("(", "[", "backwards", "test", *SURE)
 
 
 def lints(bench: Bench, has_all: bool = False) -> List[str]:
@@ -29,16 +36,24 @@ def lints(bench: Bench, has_all: bool = False) -> List[str]:
         return ["%s has more than {:,} bytes, and is not looked at".format(LARGEST) % named(bench.script)] if has_all else []
     places, outcomes = bench.places(), bench.outcomes() if has_all or bench.size <= MANY else []
     tokens = [token for token in places.tokens if token.kind != "comment"]
-    found = [*misused(tokens), *unset_slices(places), *bare_commands(places, tokens), *plain_braces(tokens)]
+    found = [*misused(tokens), *unset_slices(places), *bare_commands(places, tokens), *plain_braces(tokens), *late_takings(places)]
+    found += stopping_calls(places, bench, [start for start, _ in found]) if has_all or bench.size <= MANY else []
     found += strange_strings(places, outcomes, tokens) if has_all or bench.size >= FEW else []
+    found += wrong_ways(places, bench, outcomes) if outcomes and places.entries else []
     beyond = [token for token in tokens if has_all and token.kind == "literal" and not token.text.isascii()]
     others = " (and {})".format(counted(len(beyond) - 1, "more literal")) if len(beyond) > 1 else ""
     what = "%s has a letter beyond ASCII%s: other compilers ask for a stringdef"
     found += [(token.start, what % (short(token.text), others)) for token in beyond[:1]]
-    shown = ["%s:%d:%d: %s" % (named(bench.script), *line_and_column(places.text, start), what) for start, what in sorted(found)]
+    shown = ["%s: %s" % (named(spot(places, start)), what) for start, what in sorted(found)]
     more = len(shown) - MOST if not has_all else 0
     shown = shown[: len(shown) - max(0, more)] + ['.. and {:,} more: "lint" shows all'.format(more)] * (more > 0)
     return shown + strange_words(places, outcomes, tokens)
+
+
+def spot(places: Places, start: int) -> str:
+    """Returns the place of a byte of the text in force, in SCRIPT or in what was typed."""
+    home = next((name for name, row in places.definitions.items() if int(row.start) <= start < int(row.end)), "")
+    return places.at(home, start) if home else "%s:%d:%d" % (places.script, *line_and_column(places.text, start))
 
 
 def misused(tokens: Sequence[Token]) -> Iterable[Tuple[int, str]]:
@@ -63,20 +78,92 @@ def misused(tokens: Sequence[Token]) -> Iterable[Tuple[int, str]]:
 
 
 def bare_commands(places: Places, tokens: Sequence[Token]) -> Iterable[Tuple[int, str]]:
-    """A routine that changes the text and may fail, or ( .. or such a routine ), without `do` and before something else in an external."""
-    parts = {name: places.part(name)[3:] for name in places.of_kind("routine")}
+    """A routine that changes something and may fail, or ( .. or such a routine ), without `do` and before something else in an external."""
     declared = takewhile(lambda token: token.text != ")", dropwhile(lambda token: token.text != "externals", tokens))
-    texts = {name: [token.text for token in part] + [""] for name, part in parts.items()}
-    doubtful = [name for name, part in texts.items() if not set(part).isdisjoint(TAKING[:2]) and set(part[:2]).isdisjoint(SURE)]
+    doubtful = may_fail(places) & those_with(CHANGING, places)
     what = "if {0} fails, nothing after it in {1} runs: do {0} is meant, perhaps"
-    for name in [token.text for token in declared if token.text in parts]:
-        part, before, i = texts[name], "as", 0
-        while i < len(part) - 1:
-            end = i if part[i] != "(" else i if before in ("as", "backwards") else end_of(parts[name], i) - 1
-            is_doubtful = part[end] in doubtful or i < end and part[end - 2] == "or" and part[end - 1] in doubtful
-            if is_doubtful and before not in GOVERNING and not before.isdigit() and part[end + 1] not in ("or", "and", ")", ""):
-                yield parts[name][i].start, what.format("( .. )" if i < end else part[i], name)
-            before, i = part[end], end + 1
+    for name in [token.text for token in declared if places.kind(token.text) == "routine"]:
+        part = places.part(name)[BODY:]
+        for i, end in bare(part):
+            if part[end].text in doubtful or i < end and part[end - 2].text == "or" and part[end - 1].text in doubtful:
+                yield part[i].start, what.format("( .. )" if i < end else part[i].text, name)
+
+
+def bare(part: Sequence[Token]) -> Iterable[Tuple[int, int]]:
+    """The commands of a body, by their first and last tokens, after which the others run only if they do not fail."""
+    texts, before, i = [token.text for token in part] + [""], "as", 0
+    while i < len(part) and (i or texts[end_of(part, 0) if texts[0] == "(" else -1] != "or"):
+        end = i if texts[i] != "(" or before in ("as", "backwards") else end_of(part, i) - 1
+        if before not in GOVERNING and not before.isdigit() and texts[end + 1] not in ("or", "and", ")", ""):
+            yield i, end
+        before, i = texts[end], end + 1
+
+
+def may_fail(places: Places) -> Set[str]:
+    """Returns the routines that may fail, as far as that is plain: what they do after `do`, `try` or `repeat` does not count."""
+    parts = {name: unsure(places.part(name)[BODY:]) for name in places.of_kind("routine")}
+    tests = {*FAILING, *places.of_kind("grouping")}
+    first = [name for name, part in parts.items() if any(token.kind == "literal" or token.text in tests for token in part)]
+    return reached(first, callers({name: {token.text for token in part} for name, part in parts.items()}))
+
+
+def unsure(part: Sequence[Token]) -> List[Token]:
+    """Returns the tokens of a body without what never fails; none if it has an alternative that does not."""
+    found, texts, i = [], [token.text for token in part] + [""], 0  # type: List[Token], List[str], int
+    while i < len(part):
+        if texts[i] == "or" and texts[i + 1] in (*SURE, "true"):
+            return []
+        if texts[i] in SURE and texts[i - 1] not in NOT_SURE:
+            i = next((at for at in range(i + 1, len(part)) if texts[at] not in (*GOVERNING, "among") and not texts[at].isdigit()), len(part) - 1)
+            i = end_of(part, i) if texts[i] == "(" else i + 1
+        else:
+            found += [part[i]] if part[i].kind != "literal" or texts[i - 1] not in PUTTING else []
+            i += 1
+    return found
+
+
+def stopping_calls(places: Places, bench: Bench, known: Sequence[int]) -> Iterable[Tuple[int, str]]:
+    """A routine that does more than test, is called once, without `do`, and fails for most words, so that what comes after it does not run."""
+    parts = {name: places.part(name)[BODY:] for name in places.of_kind("routine")}
+    calls = Counter(token.text for part in parts.values() for token in part)
+    doing = may_fail(places) & those_with((*CHANGING, *MOVING), places)
+    doubtful = [name for name in doing if calls[name] == 1 and {"test", "not"}.isdisjoint(token.text for token in parts[name][:2])]
+    found = [(name, part, i) for name, part in parts.items() for i, end in bare(part) if part[end].text in doubtful and part[i].start not in known]
+    counts = {(row.name, getattr(row, "k", "")): int(row.count) for row in (bench.read("counts") if found else []) if row.kind in ("routine", "among")}
+    what = "{0} fails for {1:,} of {2:,} words, and then nothing after it in {3} runs: do {0} is meant, perhaps"
+    for name, part, i in found:
+        then = next((token for token in part[i + 1 :] if token.text not in PASSING), part[i])
+        among = next((key for key, row in places.amongs.items() if key[0] == name and int(row.start) >= then.start), (name, ""))
+        came = counts.get((part[i].text, ""), 0)
+        went = counts.get(among if then.text in ("substring", "among") else (then.text, ""), came)
+        if 2 * went < came:
+            yield part[i].start, what.format(part[i].text, came - went, came, name)
+
+
+def those_with(words: Sequence[str], places: Places) -> Set[str]:
+    """Returns the routines that have one of these words, or call such a routine."""
+    texts = {name: {token.text for token in places.part(name)[BODY:]} for name in places.of_kind("routine")}
+    return reached([name for name, part in texts.items() if not part.isdisjoint(words)], callers(texts))
+
+
+def callers(texts: Dict[str, Set[str]]) -> Dict[str, Set[str]]:
+    """Returns by routine those that call it, by what is in each."""
+    found: Dict[str, Set[str]] = {name: set() for name in texts}
+    for name, part in texts.items():
+        for other in part & found.keys():
+            found[other].add(name)
+    return found
+
+
+def late_takings(places: Places) -> Iterable[Tuple[int, str]]:
+    """A command that takes the slice directly after a routine that sets another one and takes that."""
+    parts = {name: places.part(name)[BODY:] for name in places.of_kind("routine")}
+    own = {name for name, part in parts.items() for texts in [{token.text for token in part}] if "[" in texts and not texts.isdisjoint(TAKING[:2])}
+    what = "{0} sets a slice of its own and takes it, so this {1} comes too late: {1} before {0} is meant, perhaps"
+    for part in parts.values():
+        for before, token in zip(part, part[1:]):
+            if before.text in own and token.text in TAKING[:2]:
+                yield token.start, what.format(before.text, token.text)
 
 
 def plain_braces(tokens: Sequence[Token]) -> Iterable[Tuple[int, str]]:
@@ -90,11 +177,8 @@ def unset_slices(places: Places) -> Iterable[Tuple[int, str]]:
     """The first command of a routine that takes the slice, if there is no [ or no ] in the routine, in what it calls, and in what calls it."""
     parts = {name: places.part(name)[2:] for name in places.of_kind("routine")}
     calls = {name: {token.text for token in part}.intersection(parts) for name, part in parts.items()}
-    callers: Dict[str, Set[str]] = {name: set() for name in parts}
-    for name, other in [(name, other) for name, others in calls.items() for other in others]:
-        callers[other].add(name)
     having = {sign: [name for name, part in parts.items() if any(token.text == sign for token in part)] for sign in "[]"}
-    there = {sign: reached(having[sign], calls) | reached(having[sign], callers) for sign in "[]"}
+    there = {sign: reached(having[sign], calls) | reached(having[sign], callers(calls)) for sign in "[]"}
     for name, part in parts.items():
         lacking = [sign for sign in "[]" if name not in there[sign]]
         for token in [token for token in part if token.text in TAKING and lacking][:1]:
@@ -132,6 +216,27 @@ def strange_strings(places: Places, outcomes: Sequence[Outcome], tokens: Sequenc
         strange = " ".join(sorted(set(string) - there))
         if strange:
             yield int(row.start), "'%s' has %s, which no word has and no command puts in" % (short(string), short(strange))
+
+
+def wrong_ways(places: Places, bench: Bench, outcomes: Sequence[Outcome]) -> Iterable[Tuple[int, str]]:
+    """Amongs of which most strings are taken in no run, and are only at that end of words from which the among does not go."""
+    untaken = {(row.name, row.k, row.string) for row in bench.read("counts") if row.kind == "entry" and row.count == "0"}
+    strings: Dict[Tuple[str, str], List[str]] = {}
+    for name, k, string in places.entries:
+        strings.setdefault((name, k), []).append(string)
+    sizes = {len(string) for _, _, string in places.entries} - {0}
+    begins, ends = ({way(row.word, size) for row in outcomes for size in sizes} for way in (lambda word, size: word[:size], lambda word, size: word[-size:]))
+    items = Names(places.tokens).items
+    what = {
+        False: "{0} runs forwards, and {1} of these strings, as '{2}', only end words: define {0} in backwardmode, and backwards {0}, is meant, perhaps",
+        True: "{0} runs backwards, and {1} of these strings, as '{2}', only begin words: a define outside of backwardmode is meant, perhaps",
+    }
+    for (name, k), there in ((key, there) for key, there in strings.items() if key[0] in items):
+        start, is_back = int(places.amongs[name, k].start), items[name].is_backward
+        near, far = (ends, begins) if is_back else (begins, ends)
+        odd = [string for string in there if (name, k, string) in untaken and string in far and string not in near]
+        if 2 * len(odd) >= max(4, len(there)) and not any(token.text == "backwards" and token.start < start for token in places.part(name)):
+            yield start, what[is_back].format(name, len(odd), short(odd[0]))
 
 
 def strange_words(places: Places, outcomes: Sequence[Outcome], tokens: Sequence[Token]) -> List[str]:

@@ -41,7 +41,7 @@ class Terminal(Desk):
             # (TAB writes a blank after the command, and one types another)
             argument = " ".join(argument.split()) if command == "among" else argument.lstrip()
             line = command + " " * bool(argument) + argument
-        if command != self.doubted.partition(" ")[0]:
+        if line != self.doubted:
             self.doubted = ""
         if line == "quit":
             return not self.may_end()
@@ -75,7 +75,7 @@ class Terminal(Desk):
 
     def ask(self, line: str) -> None:
         found = TO_FILE.match(line) if line.partition(" ")[0] in REPORTING else None
-        line, path = found.groups() if found else (line, "")
+        typed, (line, path) = line, found.groups() if found else (line, "")
         command, _, argument = line.partition(" ")
         is_alone = argument in (">", ">>", "|") and command in COMMANDS and not COMMANDS[command].takes
         is_piped = " | " in " " + argument or " >> " in " " + argument or argument.endswith(" >") or is_alone
@@ -94,10 +94,20 @@ class Terminal(Desk):
         else:
             shown = [] if reply.lines == ["ok"] else reports.laid_out(command, reply.lines, self.bench.places)
         if path:
-            path, said = os.path.expanduser(path), counted(len(shown), "line") + " in "
-            self.screen.say(said + short(path) if screen.to_file(path, shown) else words.not_written(command, path, self.bench))
+            self.keep_report(typed, os.path.expanduser(path), shown)
         else:
             self.screen.write(shown, is_report=command in REPORTING, is_text=command in TEXTS, last=FIGURES.get(command, 0))
+
+    def keep_report(self, line: str, path: str, shown: Sequence[str]) -> None:
+        """Writes a report to a file; to one that is there only if the line is typed again."""
+        may_be = os.path.isfile(path) and os.access(path, os.W_OK)
+        is_own = any(kept.is_same(path, own) for own in (self.bench.script, self.bench.words))
+        is_again, self.doubted = self.doubted == line and may_be and not is_own, line
+        if screen.to_file(path, shown, is_again):
+            self.doubted = ""
+            self.screen.say("%s in %s" % (counted(len(shown), "line"), short(path)))
+        else:
+            self.screen.say(words.not_written(line.partition(" ")[0], path, self.bench, is_again))
 
     # Replies that are shown with more than their rows
 
@@ -250,7 +260,24 @@ class Terminal(Desk):
 
     # Blocks
 
+    def with_number(self, line: str) -> str:
+        """Returns the line before a block; of `among NAME` with its number, which is asked for if there are several: nothing if there is no reply."""
+        command, _, name = line.partition(" ")
+        count = self.bench.places().count(name) if command == "among" and name else 0
+        if count == 1:
+            begins = '%s has 1 among, so this begins the block of "%s 1". A line with a single point ends it, Ctrl-C drops it.'
+            self.screen.say(begins % (short(name), line))
+            return line + " 1"
+        if count and not self.editor.pending:
+            number = (self.editor.read(layout.named(words.which_among(name, self.bench))) or "").strip()
+            return number and line + " " + number
+        return line
+
     def read_block(self, block: List[str]) -> None:
+        block[0] = self.with_number(block[0])
+        if not block[0]:
+            self.screen.say("Nothing was done.")
+            return
         wrong = words.early(block[0], self.bench)
         if wrong:
             self.screen.say(wrong + " Nothing was done.")
@@ -324,7 +351,7 @@ class Terminal(Desk):
     def turn(self) -> bool:
         """Reads what was saved and answers a line; returns whether `work` goes on. A fault of this client ends no work."""
         try:
-            if self.options.is_watching and not self.editor.is_interrupted and self.bench.saved():
+            if self.options.is_watching and not self.editor.is_interrupted and self.bench.news():
                 self.show_saved()
             line = self.editor.read("> ")
             if line is None:

@@ -1,5 +1,6 @@
 """Warnings about the files of `work`: at most one line for each kind of thing that the author may not have meant."""
 import re
+import sys
 import unicodedata
 from typing import Any, Callable, List, Optional, Sequence, Set, Tuple
 
@@ -109,3 +110,9 @@ def on_file(path: str, is_list: bool) -> List[str]:
 def warnings_on(script: str, words: Optional[str] = None) -> List[str]:
     """Returns the warnings on a script and, if there is one, a list of words."""
     return on_file(script, False) + (on_file(words, True) if words else [])
+
+
+def main(given: Sequence[str]) -> int:
+    """Writes how a file becomes UTF-8: for ./snowbench, and verbs that are no terminal."""
+    sys.stdout.buffer.write((converting(given[0]) + "\n").encode("utf-8", "replace"))
+    return 0

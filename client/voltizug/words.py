@@ -35,6 +35,7 @@ SENTENCES: Dict[int, str] = {
 # Why `save`, `approve` or `append` does not write to a file. {other} is what to do, {new} the same with a new file.
 MAY_NOT: Dict[str, str] = {
     "there": "{path} is there already, and {c} does not overwrite it. Nothing was written: {new}, or delete that one first.",
+    "again?": "{path} is there already. Nothing was written: the same line again overwrites it.",
     "others": "{path} was changed since {c} wrote it. Nothing was written: {new}.",
     "words": "{path} has the words, and {c} does not overwrite it. Nothing was written: {other}.",
     "script": "{path} has the script, and {c} does not overwrite it. Nothing was written: {other}.",
@@ -48,6 +49,12 @@ MAY_NOT: Dict[str, str] = {
     "closed": "{path} cannot be written: you may not write there. {Other}.",
     "full": "{path} cannot be written: {room}.",
     "full, there": "{path} cannot be written: {room}. It has its former text.",
+}
+# What is said of a file that is watched and gone.
+GONE: Dict[str, str] = {
+    "script": "{path} is gone (deleted or renamed). The script in force stays: save FILE keeps it. When {path} is there again, it is read.",
+    "words": "{path} is gone (deleted or renamed). The words that were read stay.",
+    "waiting": "{path} is gone (deleted or renamed). It is read when it is there again.",
 }
 NOTES: Dict[str, str] = {
     "unchanged": "{script} has not changed since it was read.",
@@ -158,9 +165,11 @@ def no_name(line: str, bench: Stage) -> str:
     entry = next((key for key in places.entries if argument in (key[2], "'%s'" % key[2])), None) if command == "uses" else None
     if entry:
         return "%s is a string of an among: uses %s %s %s." % (short(argument), *map(short, entry))
+    bare = re.sub(r"\Anon[-_]?", "", name)
+    question = meant(name, there) or " Did you mean %s?" % short(bare) * (bare in there)
     others = " The script has %s." % (in_words(there, "and") if there else "none")
     others += " Declare and define a new one in the file." if command in ("routine", "grouping") else ""
-    return "%sthere is no %s of this name.%s" % (begin, " or ".join(kinds), meant(name, there) or others)
+    return "%sthere is no %s of this name.%s" % (begin, " or ".join(kinds), question or others)
 
 
 def amongs_of(line: str, bench: Stage) -> str:
@@ -179,7 +188,13 @@ def unknown(line: str, bench: Stage) -> str:
     if strange:
         return strange.format(c=command, called=named(CALLED))
     if command in ("among", "uses"):
-        known = " " + amongs_of(line, bench) if bench.places().kind(argument.partition(" ")[0]) == "routine" else ""
+        (name, _, string), places = argument.partition(" "), bench.places()
+        entry = next((key for key in places.entries if key[0] == name and string in (key[2], "'%s'" % key[2])), None) if command == "uses" else None
+        known = " " + amongs_of(line, bench) if places.kind(name) == "routine" else ""
+        if entry:
+            return "%s is a string of an among: uses %s %s %s." % (short(string), *map(short, entry))
+        if known.endswith("no among."):
+            return known.strip() + ' Use "uses %s".' % short(name) * (command == "uses")
         lacks = "a number" if known else "a name and a number" if command == "among" else "a name"
         usage = "among NAME K, then an among, then a line with a single point" if command == "among" else COMMANDS["uses"].usage
         return "%s needs %s: %s.%s" % (command, lacks, usage, known)
@@ -206,8 +221,8 @@ def bad_file(line: str, bench: Stage) -> str:
     return "%s cannot be read: %s" % (short(path), why)
 
 
-def not_written(command: str, path: str, bench: Stage) -> str:
-    """Why `save`, `approve` or `append` could not write to a file."""
+def not_written(command: str, path: str, bench: Stage, is_again: bool = False) -> str:
+    """Why `save`, `approve`, `append` or a report could not write to a file. One that is there has a report only if that is asked for again."""
     if command == "append" and not path and not bench.words:
         return "There is no file of words: append FILE writes a new one."
     path = path or (bench.words or "" if command == "append" else "")
@@ -220,7 +235,8 @@ def not_written(command: str, path: str, bench: Stage) -> str:
         (command == "append" and is_there and not is_list, "no words"),
         (os.path.realpath(path) == os.path.realpath(bench.script) and not os.path.lexists(path), "gone"),
         (not os.path.isdir(folder), "no folder"), (os.path.isdir(path), "folder"),
-        (command in REPORTING and is_there, "there"), (not os.access(path if is_there else folder, os.W_OK), "closed"),
+        (not os.access(path if is_there else folder, os.W_OK), "closed"),
+        (command in REPORTING and is_there and not is_again, "again?" if os.path.isfile(path) else "there"),
         (path in bench.saved() or is_script, "changed"), (is_there, "full, there"), (True, "full"),
     ) if is_so), command, path)
 
@@ -274,8 +290,17 @@ def early(line: str, bench: Bench) -> str:
     if line in OPEN_BLOCKS:
         return ""
     code, (command, name) = (bench.ask(line, ".").refusal() or (0, ""))[0], [*line.split(" ", 2), ""][:2]
-    is_unknown = command == "among" and name and bench.places().kind(name) != "routine"
-    return refused(45 if is_unknown else code, line, bench) if is_unknown or code in (45, 46, 52, 53) else ""
+    if command == "among" and name and bench.places().kind(name) != "routine":
+        # (a name begins with a letter, and the text of an among does not)
+        code = 45 if name[0].isalpha() else 52
+    return refused(code, line, bench) if code in (45, 46, 52, 53) else ""
+
+
+def which_among(name: str, bench: Stage) -> str:
+    """Returns the question which among of a routine is meant, with their places."""
+    places = bench.places()
+    found = [(k, places.of(name, k)) for other, k in places.amongs if other == name]
+    return "Which among of %s, %s? " % (short(name), in_words(["%s (%s)" % each if each[1] else each[0] for each in found], "or"))
 
 
 def may_not(why: str, command: str, path: str, then: str = "") -> str:
