@@ -1,5 +1,8 @@
 //! Numbers in words: how many words there are, differ, and were run.
 
+ghost use Rattle.std.specs.Prelude.{◌≡◌, ◌/◌, min};
+ghost use Rattle.std.specs.Duration.{as_nanos};
+
 use crate::blocks::line_count;
 use crate::failures::{Failure, REFUSED, plain};
 use crate::run_files::RunFiles;
@@ -60,7 +63,9 @@ pub fn progress_text(alloc: Global, words: u64, milliseconds: u64) -> Result<Str
 }
 
 /// Returns the whole milliseconds of a duration, or the greatest `u64` if there are more.
-pub fn milliseconds_in(duration: Duration) -> u64 {
+pub fn milliseconds_in(duration: Duration) -> u64
+    ensures { result ≡ min u64.MAX (as_nanos duration / 1_000_000) }
+{
     let seconds = duration.as_secs();
     let rest = u64::from(duration.subsec_millis());
     seconds.saturating_mul(1_000).saturating_add(rest)

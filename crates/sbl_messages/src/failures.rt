@@ -1,5 +1,7 @@
 //! Why a run ends early, and with which status.
 
+ghost use Rattle.std.specs.Prelude.{◌≡◌, ◌&&◌, ◌≢◌, if◌then◌else◌, nat_lt};
+
 use crate::fault_texts::FaultText;
 use sbl_diagnostics::plain_text;
 use snowbench::{LoadFault, ServeFault, Verb, Wanted};
@@ -47,7 +49,11 @@ impl Failure {
     }
 
     /// Returns the exit status.
-    pub fn status(&self, verb: Verb) -> u8 {
+    pub fn status(&self, verb: Verb) -> u8
+        ensures closed { self.now ≡ Failure.ClosedPipe → result ≡ 141 }
+        ensures compare { self.now ≢ Failure.ClosedPipe → verb ≡ Verb.Compare → result ≡ 2 }
+        ensures memory { self.now ≡ Failure.OutOfMemory → verb ≢ Verb.Compare → result ≡ 1 }
+    {
         match self {
             Failure::ClosedPipe => CLOSED_PIPE,
             // The other status is that of a difference.
@@ -83,7 +89,9 @@ pub(crate) fn plain_if_any(text: FaultText) -> Option<String> {
 }
 
 /// Returns the exit status after a session in which so many replies refused something.
-pub fn strict_status(wanted: &Wanted, refusals: u64) -> u8 {
+pub fn strict_status(wanted: &Wanted, refusals: u64) -> u8
+    ensures { result ≡ (if wanted.now.options.is_strict && nat_lt 0 refusals then 1 else 0) }
+{
     if wanted.options.is_strict && refusals > 0 {
         FAILED
     } else {

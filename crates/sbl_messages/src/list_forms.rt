@@ -1,5 +1,7 @@
 //! `run --as FORM`: the forms, and why there is no list or no line of it.
 
+ghost use Rattle.std.specs.Prelude.{◌≡◌, Some, codes};
+
 use crate::counts::count_and_word;
 use crate::failures::plain;
 use snowbench::{ListForm, ListKind};
@@ -16,7 +18,12 @@ pub const NO_STEMS: &str =
     "snowbench: nothing is written: a word is refused, or its stem is more than a line";
 
 /// Returns the list that a form stands for, if there is such a form.
-pub fn list_kind(form: &str) -> Option<ListKind> {
+pub fn list_kind(form: &str) -> Option<ListKind>
+    ensures synonyms { form.now ≡ codes "synonym" → result ≡ Some (ListKind.Words ListForm.Synonym) }
+    ensures overrides { form.now ≡ codes "override" → result ≡ Some (ListKind.Words ListForm.Override) }
+    ensures tsv { form.now ≡ codes "tsv" → result ≡ Some (ListKind.Words ListForm.Tsv) }
+    ensures stems { form.now ≡ codes "stems" → result ≡ Some ListKind.Stems }
+{
     match form {
         "synonym" => Some(ListKind::Words(ListForm::Synonym)),
         "override" => Some(ListKind::Words(ListForm::Override)),

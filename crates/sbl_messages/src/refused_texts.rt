@@ -81,32 +81,32 @@ pub fn refused_source_text(
     paths: &Paths,
     refused: &RefusedSource,
 ) -> Option<String> {
-    plain_if_any(match refused {
-        RefusedSource::File { path, text } => file_text(
-            alloc,
-            path.as_str(),
-            text,
-            paths.external.as_str(),
-        ),
-        RefusedSource::Block { line, text } => {
-            source_text(alloc, bench, line.as_str(), text, paths)
-        }
-    })
+    plain_if_any(source_text(alloc, bench, paths.external.as_str(), refused))
 }
 
-/// Returns the lines on the fault of the block after a line.
-fn source_text<'x>(
+/// Returns the lines on the fault of a file or of a block.
+fn source_text(alloc: Global, bench: &Bench, external: &str, refused: &RefusedSource) -> FaultText {
+    match refused {
+        RefusedSource::File { path, text } => file_text(alloc, path.as_str(), text, external),
+        RefusedSource::Block { line, text } => {
+            let script = bench.script().print(alloc)?;
+            work_block_text(alloc, script.as_bytes(), external, line.as_str(), text)
+        }
+    }
+}
+
+/// Returns the lines on the fault of the block after a line of work.
+fn work_block_text<'x>(
     alloc: Global,
-    bench: &Bench,
+    script: &'x [u8],
+    external: &'x str,
     line: &'x str,
     block: &'x [u8],
-    paths: &Paths,
 ) -> FaultText {
-    let script = bench.script().print(alloc)?;
     let typed = TypedBlock {
         block,
-        script: script.as_bytes(),
-        external: paths.external.as_str(),
+        script,
+        external,
         takes_heads: true,
         source: None,
     };

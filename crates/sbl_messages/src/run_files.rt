@@ -1,5 +1,8 @@
 //! The files of a run: their names and bytes, and why a run over them fails.
 
+ghost use Rattle.std.specs.Prelude.{◌≡◌, ◌≢◌, ◌&&◌, ◌||◌, ◌↔◌, IsOk, IsTrue, List, None, Some, codes, false, ℕ};
+ghost use Rattle.std.specs.Str.{bytes_eq};
+
 use crate::failures::{FAILED, Failure, REFUSED};
 use crate::fault_texts::files_fault_text;
 use sbl_diagnostics::STANDARD_INPUT;
@@ -35,7 +38,11 @@ pub struct RunFiles<'a> {
 
 impl RunFiles<'_> {
     /// Returns what is run of the files.
-    pub fn input<'x>(&'x self, external: &'x str) -> FilesInput<'x> {
+    pub fn input<'x>(&'x self, external: &'x str) -> FilesInput<'x>
+        ensures external { result.external.now ≡ external.now }
+        ensures script { result.script.now ≡ self.now.script.bytes.items }
+        ensures words { result.words.now ≡ self.now.words.bytes.items }
+    {
         FilesInput {
             external,
             script: &self.script.bytes,
@@ -45,7 +52,11 @@ impl RunFiles<'_> {
 }
 
 /// Returns whether more than one of the files is standard input.
-pub fn reads_twice(names: FileNames<'_>) -> bool {
+pub fn reads_twice(names: FileNames<'_>) -> bool
+    ensures two { names.entry.rest ≡ None → result ≡ (bytes_eq names.entry.script.now (codes "-") && bytes_eq names.entry.words.now (codes "-")) }
+    ensures both { names.entry.script.now ≡ codes "-" → names.entry.words.now ≡ codes "-" → IsTrue result }
+    ensures other { names.entry.script.now ≢ codes "-" → names.entry.words.now ≢ codes "-" → result ≡ false }
+{
     let script = names.script == "-";
     let words = names.words == "-";
     let rest = names.rest == Some("-");
@@ -53,7 +64,10 @@ pub fn reads_twice(names: FileNames<'_>) -> bool {
 }
 
 /// Refuses names of which more than one is standard input, with this line.
-pub fn refuse_twice(names: FileNames<'_>, line: &'static str) -> Result<(), Failure> {
+pub fn refuse_twice(names: FileNames<'_>, line: &'static str) -> Result<(), Failure>
+    ensures both { names.entry.script.now ≡ codes "-" → names.entry.words.now ≡ codes "-" → result ≡ Err (Failure.Fixed line.entry 2) }
+    ensures other { names.entry.script.now ≢ codes "-" → names.entry.words.now ≢ codes "-" → IsOk result }
+{
     if reads_twice(names) {
         return Err(Failure::Fixed(line, REFUSED));
     }
@@ -61,7 +75,10 @@ pub fn refuse_twice(names: FileNames<'_>, line: &'static str) -> Result<(), Fail
 }
 
 /// Returns the name of a file, as people call it.
-pub fn file_name(path: &str) -> &str {
+pub fn file_name(path: &str) -> &str
+    ensures input { path.now ≡ codes "-" → result.now ≡ codes "standard input" }
+    ensures path { path.now ≢ codes "-" → result.now ≡ path.now }
+{
     if path == "-" { STANDARD_INPUT } else { path }
 }
 

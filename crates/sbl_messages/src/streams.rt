@@ -1,5 +1,7 @@
 //! A reader that keeps what it reads first, and a writer that counts lines.
 
+ghost use Rattle.std.specs.Prelude.{◌≡◌, [], false};
+
 use std::alloc::Global;
 use std::cell::RefCell;
 use std::io;
@@ -17,7 +19,10 @@ pub struct FirstBytes {
 
 impl FirstBytes {
     /// Returns no bytes. More are kept only if they are wanted.
-    pub fn new(alloc: Global, is_wanted: bool) -> FirstBytes {
+    pub fn new(alloc: Global, is_wanted: bool) -> FirstBytes
+        ensures bytes { result.bytes.items ≡ [] }
+        ensures whole { result.is_whole ≡ is_wanted }
+    {
         FirstBytes {
             bytes: Vec::new(alloc),
             is_whole: is_wanted,
@@ -25,12 +30,16 @@ impl FirstBytes {
     }
 
     /// Returns the bytes.
-    pub fn bytes(&self) -> &[u8] {
+    pub fn bytes(&self) -> &[u8]
+        ensures { result.now ≡ self.now.bytes.items }
+    {
         self.bytes.as_slice()
     }
 
     /// Returns whether these are all bytes that were read.
-    pub fn is_whole(&self) -> bool {
+    pub fn is_whole(&self) -> bool
+        ensures { result ≡ self.now.is_whole }
+    {
         self.is_whole
     }
 
@@ -82,7 +91,11 @@ pub struct Output<W> {
 
 impl<W> Output<W> {
     /// Returns the writer before its first write.
-    pub fn new(inner: W) -> Output<W> {
+    pub fn new(inner: W) -> Output<W>
+        ensures inner { result.inner ≡ inner }
+        ensures lines { result.lines ≡ 0 }
+        ensures closed { result.is_closed ≡ false }
+    {
         Output {
             inner,
             lines: 0,
@@ -91,12 +104,16 @@ impl<W> Output<W> {
     }
 
     /// Returns the number of lines that were written.
-    pub fn lines(&self) -> u64 {
+    pub fn lines(&self) -> u64
+        ensures { result ≡ self.now.lines }
+    {
         self.lines
     }
 
     /// Returns whether a write failed because the reader of the pipe has closed it.
-    pub fn is_closed(&self) -> bool {
+    pub fn is_closed(&self) -> bool
+        ensures { result ≡ self.now.is_closed }
+    {
         self.is_closed
     }
 }
