@@ -1,6 +1,7 @@
 //! Why a run ends early, and with which status.
 
-ghost use Rattle.std.specs.Prelude.{◌≡◌, ◌&&◌, ◌≢◌, if◌then◌else◌, nat_lt};
+ghost use Rattle.std.specs.Prelude.{◌≡◌, ◌&&◌, ◌≢◌, IsTrue, Option, String, false, if◌then◌else◌, nat_lt};
+ghost use Rattle.std.specs.declared.alloc.Global.{Global};
 
 use crate::fault_texts::FaultText;
 use sbl_diagnostics::plain_text;
@@ -41,7 +42,10 @@ impl Failure {
     }
 
     /// Returns the failure of a fault. `is_closed` is whether the reader of the output has closed it.
-    pub(crate) fn of_fault(fault: LoadFault, is_closed: bool, text: FaultText) -> Failure {
+    pub(crate) fn of_fault(fault: LoadFault, is_closed: bool, text: FaultText) -> Failure
+        ensures closed { IsTrue is_closed → fault ≡ LoadFault.Input ServeFault.Write → result ≡ Failure.ClosedPipe }
+        ensures open { is_closed ≡ false → (said : Option (String Global)) × (result ≡ Failure.Fault fault said) }
+    {
         if is_closed && fault == LoadFault::Input(ServeFault::Write) {
             return Failure::ClosedPipe;
         }

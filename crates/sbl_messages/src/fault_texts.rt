@@ -1,5 +1,7 @@
 //! What to say on a fault beside its line: where it is, or what is missing.
 
+ghost use Rattle.std.specs.Prelude.{◌≡◌, None, Option, String, false};
+
 use crate::blocks::split_at_point;
 use crate::counts::count_and_word;
 use crate::failures::Failure;
@@ -130,7 +132,10 @@ pub fn input_failure(
     fault: LoadFault,
     rows: u64,
     is_closed: bool,
-) -> Failure {
+) -> Failure
+    ensures places { wanted.now.options.shows_places ≡ false → result ≡ Failure.Fault fault None }
+    ensures open { is_closed ≡ false → (said : Option (String Global)) × (result ≡ Failure.Fault fault said) }
+{
     if !wanted.options.shows_places {
         return Failure::Fault(fault, None);
     }

@@ -1,7 +1,8 @@
 //! The files of a run: their names and bytes, and why a run over them fails.
 
-ghost use Rattle.std.specs.Prelude.{◌≡◌, ◌≢◌, ◌&&◌, ◌||◌, ◌↔◌, IsOk, IsTrue, List, None, Some, codes, false, ℕ};
+ghost use Rattle.std.specs.Prelude.{◌≡◌, ◌≢◌, ◌&&◌, Err, IsOk, IsTrue, None, Option, String, codes, false, if◌then◌else◌};
 ghost use Rattle.std.specs.Str.{bytes_eq};
+ghost use Rattle.snowbench.specs.ScriptFiles.{cause_of};
 
 use crate::failures::{FAILED, Failure, REFUSED};
 use crate::fault_texts::files_fault_text;
@@ -9,6 +10,7 @@ use sbl_diagnostics::STANDARD_INPUT;
 use snowbench::{FilesFault, FilesInput, Wanted};
 use std::alloc::Global;
 use std::io;
+use std::io::ErrorKind;
 
 /// The names of the files: `-` is standard input.
 #[derive(Clone, Copy)]
@@ -76,16 +78,17 @@ pub fn refuse_twice(names: FileNames<'_>, line: &'static str) -> Result<(), Fail
 
 /// Returns the name of a file, as people call it.
 pub fn file_name(path: &str) -> &str
-    ensures input { path.now ≡ codes "-" → result.now ≡ codes "standard input" }
-    ensures path { path.now ≢ codes "-" → result.now ≡ path.now }
+    ensures { result.now ≡ (if bytes_eq path.now (codes "-") then codes "standard input" else path.now) }
 {
     if path == "-" { STANDARD_INPUT } else { path }
 }
 
 /// Returns the failure of a file that cannot be read: `OutOfMemory` if there was no memory for it.
-pub fn unread_failure(alloc: Global, path: &str, kind: io::ErrorKind) -> Failure {
+pub fn unread_failure(alloc: Global, path: &str, kind: ErrorKind) -> Failure
+    ensures { kind ≡ ErrorKind.OutOfMemory → result ≡ Failure.OutOfMemory }
+{
     match kind {
-        io::ErrorKind::OutOfMemory => Failure::OutOfMemory,
+        ErrorKind::OutOfMemory => Failure::OutOfMemory,
         _ => {
             let line = format!(in alloc; "snowbench: {path} is no file that can be read");
             Failure::of_line(line, REFUSED)
@@ -96,7 +99,7 @@ pub fn unread_failure(alloc: Global, path: &str, kind: io::ErrorKind) -> Failure
 /// Returns the failure of standard input that cannot be read: `OutOfMemory` if there was no memory for it.
 pub fn unread_input_failure(alloc: Global, error: &io::Error) -> Failure {
     match error.kind() {
-        io::ErrorKind::OutOfMemory => Failure::OutOfMemory,
+        ErrorKind::OutOfMemory => Failure::OutOfMemory,
         _ => {
             let line = format!(in alloc; "snowbench: standard input cannot be read: {error}");
             Failure::of_line(line, FAILED)
@@ -111,7 +114,9 @@ pub fn files_failure(
     files: &RunFiles<'_>,
     fault: FilesFault,
     is_closed: bool,
-) -> Failure {
+) -> Failure
+    ensures { is_closed ≡ false → (said : Option (String Global)) × (result ≡ Failure.Fault (cause_of fault) said) }
+{
     let text = files_fault_text(alloc, wanted.external.as_str(), files, fault);
     Failure::of_fault(fault.cause(), is_closed, text)
 }

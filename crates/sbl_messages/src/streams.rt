@@ -64,7 +64,9 @@ pub struct FirstBytesReader<'a, R> {
 
 impl<'a, R> FirstBytesReader<'a, R> {
     /// Returns the reader before its first read.
-    pub fn new(inner: R, kept: &'a RefCell<FirstBytes>) -> FirstBytesReader<'a, R> {
+    pub fn new(inner: R, kept: &'a RefCell<FirstBytes>) -> FirstBytesReader<'a, R>
+        ensures { result.inner ≡ inner }
+    {
         FirstBytesReader { inner, kept }
     }
 }
