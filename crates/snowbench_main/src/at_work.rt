@@ -1,7 +1,8 @@
 //! Work on the files of a script and of words.
 
-use crate::failures::{Failure, REFUSED, random_keys};
+use crate::failures::random_keys;
 use crate::places::WorkPlaces;
+use sbl_messages::{Failure, REFUSED};
 use sbl_work::{NoObserver, Observer, Paths, work_observed};
 use snowbench::{Device, Face, Lines, Wanted};
 use std::hash::RandomState;

@@ -1,17 +1,14 @@
 //! `compare` over files.
 
-use crate::compared_words::comparison_words;
-use crate::failures::{Failure, REFUSED, plain, word_keys};
-use crate::fault_texts::{FaultText, fault_of_script, words_fault_text};
-use crate::files::{FileNames, RunFiles, read_file, refuse_twice};
+use crate::failures::word_keys;
+use crate::files::read_file;
 use crate::progress_line::ProgressLine;
-use crate::streams::Output;
-use sbl_batch::{
-    BenchPair, CompareFault, CompareInput, compare, compare_status, open_pair, write_comparison,
-};
+use sbl_batch::{CompareInput, compare_status, open_pair, write_comparison};
 use sbl_io::write_all;
+use sbl_messages::{
+    Failure, FileNames, Output, REFUSED, RunFiles, compare_failure, refuse_twice, words_of_pair,
+};
 use snowbench::{Device, Face, LoadFault, Progress, Verb, Wanted, WordKeys};
-use std::alloc::{AllocError, Global};
 use std::io::IsTerminal;
 
 /// The line if `compare` names standard input twice.
@@ -98,37 +95,4 @@ fn compare_in_words(
         Ok(()) => Ok(compare_status(changed)),
         Err(fault) => Err(Failure::Fault(LoadFault::Input(fault), None)),
     }
-}
-
-/// Returns the comparison of two benches in words, without characters that a terminal obeys, and the number of words that
-/// changed.
-fn words_of_pair(
-    alloc: Global,
-    files: &RunFiles<'_>,
-    pair: &BenchPair,
-) -> Result<(String, usize), AllocError> {
-    let comparison = compare(alloc, &pair.old, &pair.new)?;
-    let text = comparison_words(alloc, files.script.name, files.rest.name, &comparison);
-    Ok((plain(text)?, comparison.changed))
-}
-
-/// Returns the failure of a comparison.
-fn compare_failure(
-    alloc: Global,
-    files: &RunFiles<'_>,
-    input: &CompareInput<'_>,
-    fault: CompareFault,
-    is_closed: bool,
-) -> Failure {
-    let text = match fault {
-        CompareFault::Old(fault) => {
-            fault_of_script(alloc, files.script.name, input.old, input.external, fault)
-        }
-        CompareFault::New(fault) => {
-            fault_of_script(alloc, files.rest.name, input.new, input.external, fault)
-        }
-        CompareFault::Words(fault) => words_fault_text(alloc, files.words.name, input.words, fault),
-        CompareFault::Rows(_) => Ok(None),
-    };
-    Failure::of_fault(fault.cause(), is_closed, text)
 }

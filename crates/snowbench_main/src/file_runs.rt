@@ -1,21 +1,19 @@
 //! Runs over files.
 
-use crate::blocks::line_count;
-use crate::failures::{FAILED, Failure, REFUSED, count_and_word, plain, print_line, word_keys};
-use crate::fault_texts::files_fault_text;
-use crate::files::{
-    FileNames, NamedFile, RunFiles, file_name, open_named, read_file, read_files, reads_twice,
-    refuse_twice,
-};
+use crate::failures::{print_line, word_keys};
+use crate::files::{open_named, read_file, read_files};
 use crate::places::PlaceWatch;
 use crate::progress_line::ProgressLine;
 use crate::standard_input::run_input;
-use crate::streams::Output;
+use sbl_messages::{
+    FAILED, Failure, FileNames, NamedFile, Output, REFUSED, RunFiles, counts_text, file_name,
+    files_failure, reads_twice, refuse_twice, same_count, strict_status,
+};
 use snowbench::{
     Device, FilesFault, Lines, Progress, Wanted, WordKeys, check_files, filter_file, run_files,
     stem_files,
 };
-use std::alloc::{AllocError, Global};
+use std::alloc::AllocError;
 use std::io::{Read, Stdout};
 
 /// The line if `check` names standard input twice.
@@ -25,27 +23,6 @@ const NAMED_TWICE_BY_CHECK: &str =
 /// The line if `check` has one file or two.
 const THREE_FILES: &str =
     "snowbench: check takes three files, ./snowbench check SCRIPT WORDS STEMS, or all from standard input, ./snowbench check < INPUT";
-
-/// Returns the failure of a run over files.
-pub(crate) fn files_failure(
-    alloc: Global,
-    wanted: &Wanted,
-    files: &RunFiles<'_>,
-    fault: FilesFault,
-    is_closed: bool,
-) -> Failure {
-    let text = files_fault_text(alloc, wanted.external.as_str(), files, fault);
-    Failure::of_fault(fault.cause(), is_closed, text)
-}
-
-/// Returns the exit status after a session in which so many replies refused something.
-pub(crate) fn strict_status(wanted: &Wanted, refusals: u64) -> u8 {
-    if wanted.options.is_strict && refusals > 0 {
-        FAILED
-    } else {
-        0
-    }
-}
 
 /// Runs the commands of a file over a script and words in files, and returns the exit status. Without a file of commands writes the rows.
 pub(crate) fn run_session(
@@ -106,7 +83,7 @@ pub(crate) fn run_check(
     progress.see_end();
     match checked {
         Ok(differences) => {
-            let line = plain(counts_text(rt.alloc(), count, differences))?;
+            let line = counts_text(rt.alloc(), count, differences)?;
             print_line(rt, line.as_str());
             Ok(if differences == 0 { 0 } else { FAILED })
         }
@@ -115,29 +92,6 @@ pub(crate) fn run_check(
             Err(files_failure(rt.alloc(), wanted, &files, fault, is_closed))
         }
     }
-}
-
-/// Returns how many words there are, and how many differ.
-fn counts_text(alloc: Global, words: u64, differences: u64) -> Result<String, AllocError> {
-    let words = count_and_word(alloc, words, "word", "words")?;
-    let differences = count_and_word(alloc, differences, "differs", "differ")?;
-    format!(in alloc; "{words}, {differences}")
-}
-
-/// Returns how many lines each of the two lists has, if they have as many.
-fn same_count(alloc: Global, files: &RunFiles<'_>) -> Result<u64, Failure> {
-    let count = line_count(&files.words.bytes);
-    let other = line_count(&files.rest.bytes);
-    if count == other {
-        return Ok(count);
-    }
-    let (words, stems) = (files.words.name, files.rest.name);
-    let count = count_and_word(alloc, count, "line", "lines")?;
-    let other = count_and_word(alloc, other, "line", "lines")?;
-    let line = format!(in alloc;
-        "snowbench: {words} has {count} and {stems} has {other}: each word needs its stem"
-    );
-    Err(Failure::of_line(line, REFUSED))
 }
 
 /// Writes the row of each word of a file, or of standard input, by the script of a file, as they come. Returns the exit status.

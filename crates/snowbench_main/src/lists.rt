@@ -1,32 +1,12 @@
 //! `run --as FORM`: the words and stems of files as a list.
 
-use crate::failures::{FAILED, Failure, REFUSED, count_and_word, plain, print_line, word_keys};
-use crate::file_runs::files_failure;
-use crate::files::{FileNames, read_files};
-use crate::streams::Output;
-use snowbench::{Device, ListForm, ListKind, Wanted, list_files};
-use std::alloc::{AllocError, Global};
-
-/// The line if there is no such form.
-const NO_FORM: &str = "snowbench: --as takes synonym, override, tsv or stems";
-
-/// The line if `run` has a form and a file of commands.
-const NO_COMMANDS: &str = "snowbench: run with --as takes SCRIPT and WORDS, and no COMMANDS";
-
-/// The line if the stems are no list.
-const NO_STEMS: &str =
-    "snowbench: nothing is written: a word is refused, or its stem is more than a line";
-
-/// Returns what a form is called.
-fn kind_of(form: &str) -> Option<ListKind> {
-    match form {
-        "synonym" => Some(ListKind::Words(ListForm::Synonym)),
-        "override" => Some(ListKind::Words(ListForm::Override)),
-        "tsv" => Some(ListKind::Words(ListForm::Tsv)),
-        "stems" => Some(ListKind::Stems),
-        _ => None,
-    }
-}
+use crate::failures::{print_line, word_keys};
+use crate::files::read_files;
+use sbl_messages::{
+    FAILED, Failure, FileNames, NO_COMMANDS, NO_FORM, NO_STEMS, Output, REFUSED, files_failure,
+    left_out_text, list_kind,
+};
+use snowbench::{Device, Wanted, list_files};
 
 /// Writes the list of the words of a file, by the script of a file, and returns the exit status. Prints how many words have no line.
 pub(crate) fn run_list(
@@ -35,7 +15,7 @@ pub(crate) fn run_list(
     form: &str,
     names: FileNames<'_>,
 ) -> Result<u8, Failure> {
-    let Some(kind) = kind_of(form) else {
+    let Some(kind) = list_kind(form) else {
         return Err(Failure::Fixed(NO_FORM, REFUSED));
     };
     if names.rest.is_some() {
@@ -51,7 +31,7 @@ pub(crate) fn run_list(
         Ok(Some(words)) => {
             let left_out = (words as u64).saturating_sub(output.lines());
             if left_out > 0 {
-                let line = plain(left_out_text(rt.alloc(), left_out, form))?;
+                let line = left_out_text(rt.alloc(), left_out, form)?;
                 print_line(rt, line.as_str());
             }
             Ok(0)
@@ -59,12 +39,4 @@ pub(crate) fn run_list(
         Ok(None) => Err(Failure::Fixed(NO_STEMS, FAILED)),
         Err(fault) => Err(files_failure(rt.alloc(), wanted, &files, fault, output.is_closed())),
     }
-}
-
-/// Returns how many words have no line.
-fn left_out_text(alloc: Global, count: u64, form: &str) -> Result<String, AllocError> {
-    let words = count_and_word(alloc, count, "word is", "words are")?;
-    format!(in alloc;
-        "snowbench: {words} left out: refused, or with a character that {form} cannot say"
-    )
 }

@@ -2,27 +2,23 @@
 #![tactic(auto)]
 
 mod at_work;
-mod blocks;
-mod compared_words;
 mod comparisons;
 mod failures;
-mod fault_texts;
 mod file_runs;
 mod files;
 mod lists;
 mod places;
 mod progress_line;
 mod standard_input;
-mod streams;
 
 use crate::at_work::start_work;
 use crate::comparisons::run_compare;
-use crate::failures::{Failure, REFUSED, plain, print_failure};
+use crate::failures::print_failure;
 use crate::file_runs::{run_check, run_filter, run_session};
-use crate::files::{FileNames, refuse_twice};
 use crate::lists::run_list;
 use crate::standard_input::run_input;
 use clap::error::ErrorKind;
+use sbl_messages::{Failure, FileNames, REFUSED, plain, refuse_twice};
 use snowbench::{Verb, Wanted, read_words};
 use std::io;
 use std::process::ExitCode;

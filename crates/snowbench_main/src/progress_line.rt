@@ -1,11 +1,10 @@
 //! How far a long run over words is, on standard error at a terminal.
 
-use crate::failures::count_and_word;
 use sbl_bench::Progress;
+use sbl_messages::{milliseconds_in, progress_text};
 use snowbench::Verb;
-use std::alloc::AllocError;
 use std::io::IsTerminal;
-use std::time::{Duration, Instant};
+use std::time::Instant;
 
 /// How many milliseconds a run takes before a line is shown.
 const FIRST_LINE: u64 = 2_000;
@@ -63,29 +62,10 @@ impl<'a> ProgressLine<'a> {
         }
         self.due = milliseconds.saturating_add(NEXT_LINE);
         // If there is no memory for it, nothing is shown.
-        if let Ok(text) = self.text(words, milliseconds) {
+        if let Ok(text) = progress_text(self.rt.alloc(), words, milliseconds) {
             let _ = eprint!(self.rt; "\r{text}\u{1b}[K");
         }
     }
-
-    /// Returns the line.
-    fn text(&self, words: u64, milliseconds: u64) -> Result<String, AllocError> {
-        let alloc = self.rt.alloc();
-        let rate = match milliseconds {
-            0 => 0,
-            _ => words.saturating_mul(1_000) / milliseconds,
-        };
-        let words = count_and_word(alloc, words, "word", "words")?;
-        let rate = count_and_word(alloc, rate, "word", "words")?;
-        format!(in alloc; "{words}, {rate} a second")
-    }
-}
-
-/// Returns the milliseconds of a duration.
-fn milliseconds_in(duration: Duration) -> u64 {
-    let seconds = duration.as_secs();
-    let rest = u64::from(duration.subsec_millis());
-    seconds.saturating_mul(1_000).saturating_add(rest)
 }
 
 impl Progress for ProgressLine<'_> {

@@ -1,11 +1,11 @@
 //! Runs over standard input.
 
-use crate::failures::{FAILED, Failure, print_line, word_keys};
-use crate::fault_texts::{hint, input_fault_text};
-use crate::file_runs::strict_status;
+use crate::failures::{print_line, word_keys};
 use crate::places::PlaceWatch;
-use crate::streams::{FirstBytes, FirstBytesReader, Output};
 use sbl_diagnostics::STANDARD_INPUT;
+use sbl_messages::{
+    FAILED, Failure, FirstBytes, FirstBytesReader, Output, hint, input_failure, strict_status,
+};
 use snowbench::{Device, Lines, LoadFault, Progress, Wanted, WordKeys, answer};
 use std::alloc::AllocError;
 use std::cell::RefCell;
@@ -42,11 +42,10 @@ pub(crate) fn run_input(rt: &HostRuntime, wanted: &Wanted) -> Result<u8, Failure
             Ok(strict_status(wanted, refusals))
         }
         Ok(_) => Ok(FAILED),
-        Err(fault) if wanted.options.shows_places => {
-            let text = input_fault_text(rt.alloc(), wanted, kept.bytes(), fault, output.lines());
-            Err(Failure::of_fault(fault, output.is_closed(), text))
+        Err(fault) => {
+            let (rows, is_closed) = (output.lines(), output.is_closed());
+            Err(input_failure(rt.alloc(), wanted, kept.bytes(), fault, rows, is_closed))
         }
-        Err(fault) => Err(Failure::Fault(fault, None)),
     }
 }
 

@@ -1,6 +1,6 @@
 //! A comparison of two scripts in words, for people.
 
-use crate::failures::count_and_word;
+use crate::counts::count_and_word;
 use sbl_batch::ScriptComparison;
 use sbl_diagnostics::push_named;
 use sbl_io::text_of;

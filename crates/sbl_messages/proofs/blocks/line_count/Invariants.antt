@@ -1,5 +1,5 @@
 use Rattle.std.proofs.Common.{length}
-use Rattle.snowbench_main.proofs.blocks.line_count.Given as goal
+use Rattle.sbl_messages.proofs.blocks.line_count.Given as goal
 
 abbrev pub decreases-loop-after : goal.decreases-loop-after
 decreases-loop-after l = length l.rest

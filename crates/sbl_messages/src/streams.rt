@@ -1,5 +1,7 @@
 //! A reader that keeps what it reads first, and a writer that counts lines.
 
+ghost use Rattle.std.specs.Prelude.{◌≡◌, [], false};
+
 use std::alloc::Global;
 use std::cell::RefCell;
 use std::io;
@@ -10,14 +12,17 @@ const MOST_KEPT: usize = 2_097_152;
 
 /// The first bytes that were read, and whether they are all.
 #[derive(Drop)]
-pub(crate) struct FirstBytes {
+pub struct FirstBytes {
     bytes: Vec<u8>,
     is_whole: bool,
 }
 
 impl FirstBytes {
     /// Returns no bytes. More are kept only if they are wanted.
-    pub(crate) fn new(alloc: Global, is_wanted: bool) -> FirstBytes {
+    pub fn new(alloc: Global, is_wanted: bool) -> FirstBytes
+        ensures bytes { result.bytes.items ≡ [] }
+        ensures whole { result.is_whole ≡ is_wanted }
+    {
         FirstBytes {
             bytes: Vec::new(alloc),
             is_whole: is_wanted,
@@ -25,12 +30,16 @@ impl FirstBytes {
     }
 
     /// Returns the bytes.
-    pub(crate) fn bytes(&self) -> &[u8] {
+    pub fn bytes(&self) -> &[u8]
+        ensures { result.now ≡ self.now.bytes.items }
+    {
         self.bytes.as_slice()
     }
 
     /// Returns whether these are all bytes that were read.
-    pub(crate) fn is_whole(&self) -> bool {
+    pub fn is_whole(&self) -> bool
+        ensures { result ≡ self.now.is_whole }
+    {
         self.is_whole
     }
 
@@ -48,14 +57,16 @@ impl FirstBytes {
 
 /// A reader that keeps the first bytes that it reads.
 #[derive(Drop)]
-pub(crate) struct FirstBytesReader<'a, R> {
+pub struct FirstBytesReader<'a, R> {
     inner: R,
     kept: &'a RefCell<FirstBytes>,
 }
 
 impl<'a, R> FirstBytesReader<'a, R> {
     /// Returns the reader before its first read.
-    pub(crate) fn new(inner: R, kept: &'a RefCell<FirstBytes>) -> FirstBytesReader<'a, R> {
+    pub fn new(inner: R, kept: &'a RefCell<FirstBytes>) -> FirstBytesReader<'a, R>
+        ensures { result.inner ≡ inner }
+    {
         FirstBytesReader { inner, kept }
     }
 }
@@ -74,7 +85,7 @@ impl<R: Read> Read for FirstBytesReader<'_, R> {
 
 /// A writer that counts the lines that are written.
 #[derive(Drop)]
-pub(crate) struct Output<W> {
+pub struct Output<W> {
     inner: W,
     lines: u64,
     is_closed: bool,
@@ -82,7 +93,11 @@ pub(crate) struct Output<W> {
 
 impl<W> Output<W> {
     /// Returns the writer before its first write.
-    pub(crate) fn new(inner: W) -> Output<W> {
+    pub fn new(inner: W) -> Output<W>
+        ensures inner { result.inner ≡ inner }
+        ensures lines { result.lines ≡ 0 }
+        ensures closed { result.is_closed ≡ false }
+    {
         Output {
             inner,
             lines: 0,
@@ -91,12 +106,16 @@ impl<W> Output<W> {
     }
 
     /// Returns the number of lines that were written.
-    pub(crate) fn lines(&self) -> u64 {
+    pub fn lines(&self) -> u64
+        ensures { result ≡ self.now.lines }
+    {
         self.lines
     }
 
     /// Returns whether a write failed because the reader of the pipe has closed it.
-    pub(crate) fn is_closed(&self) -> bool {
+    pub fn is_closed(&self) -> bool
+        ensures { result ≡ self.now.is_closed }
+    {
         self.is_closed
     }
 }

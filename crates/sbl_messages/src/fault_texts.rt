@@ -1,8 +1,11 @@
 //! What to say on a fault beside its line: where it is, or what is missing.
 
+ghost use Rattle.std.specs.Prelude.{◌≡◌, None, Option, String, false};
+
 use crate::blocks::split_at_point;
-use crate::failures::count_and_word;
-use crate::files::RunFiles;
+use crate::counts::count_and_word;
+use crate::failures::Failure;
+use crate::run_files::RunFiles;
 use sbl_bench::{EditFault, MAX_WORD_LENGTH};
 use sbl_diagnostics::{
     BadLine, LineRole, STANDARD_INPUT, bad_line_text, offset_of_byte, push_named, script_fault_text,
@@ -120,9 +123,29 @@ pub(crate) fn words_fault_text(
     placed_text(alloc, name, place_in(words, fault), words, LineRole::Word)
 }
 
+/// Returns the failure of a run over standard input. `input` are its first bytes, and `rows` is the number of rows that were written. There is
+/// something to say on it only if places are shown. `is_closed` is whether the reader of the output has closed it.
+pub fn input_failure(
+    alloc: Global,
+    wanted: &Wanted,
+    input: &[u8],
+    fault: LoadFault,
+    rows: u64,
+    is_closed: bool,
+) -> Failure
+    ensures places { wanted.now.options.shows_places ≡ false → result ≡ Failure.Fault fault None }
+    ensures open { is_closed ≡ false → (said : Option (String Global)) × (result ≡ Failure.Fault fault said) }
+{
+    if !wanted.options.shows_places {
+        return Failure::Fault(fault, None);
+    }
+    let text = input_fault_text(alloc, wanted, input, fault, rows);
+    Failure::of_fault(fault, is_closed, text)
+}
+
 /// Returns what there is to say on the fault of a run over standard input. `input` are its first bytes, and lines are counted from its
 /// beginning. `rows` is the number of rows that were written.
-pub(crate) fn input_fault_text(
+fn input_fault_text(
     alloc: Global,
     wanted: &Wanted,
     input: &[u8],
@@ -204,7 +227,7 @@ fn cut_text(verb: Verb, input: &[u8]) -> &'static str {
 }
 
 /// Returns what to say about an input that is not read to its end, because a point is missing or is one too many.
-pub(crate) fn hint(verb: Verb, input: &[u8]) -> Option<&'static str> {
+pub fn hint(verb: Verb, input: &[u8]) -> Option<&'static str> {
     let (_, words) = split_at_point(input)?;
     match (verb, split_at_point(words)) {
         (Verb::Session, None) => Some(

@@ -1,0 +1,128 @@
+//! What there is to say on a text that a session or work refuses.
+
+use crate::blocks::split_at_point;
+use crate::failures::plain_if_any;
+use crate::fault_texts::FaultText;
+use sbl_bench::{Bench, EditFault};
+use sbl_diagnostics::{TypedBlock, fault_of, part_text, script_fault_text, whole_text};
+use sbl_sessions::part_of;
+use sbl_work::{Paths, RefusedSource};
+use snowbench::RefusedEdit;
+use std::alloc::Global;
+
+/// Returns the lines on the fault of a script in a file, if it has one.
+fn file_text(alloc: Global, path: &str, text: &[u8], external: &str) -> FaultText {
+    match fault_of(alloc, text, external) {
+        Some(fault) => script_fault_text(alloc, path, text, external, fault).map(Some),
+        None => Ok(None),
+    }
+}
+
+/// Returns the lines on the fault of a block that the line before it puts into a part, or else in the place of the whole script.
+fn block_text<'x>(alloc: Global, line: &'x str, typed: TypedBlock<'x>) -> FaultText {
+    match part_of(line) {
+        Some(part) => part_text(alloc, typed, part),
+        None => whole_text(alloc, typed),
+    }
+}
+
+/// Returns what there is to say on an edit of a session that is refused for its text, without characters that a terminal obeys. Returns
+/// `None` if it is refused for something else, or if an allocation fails. `input` is the name of the text in which the commands are, and the
+/// block begins in its line `line`, from 1.
+pub fn refused_edit_text<'x>(
+    alloc: Global,
+    bench: &Bench,
+    edit: &RefusedEdit,
+    external: &'x str,
+    input: &'x str,
+    line: u64,
+) -> Option<String> {
+    match edit.fault {
+        EditFault::Script(_) | EditFault::AmongCount => {
+            plain_if_any(edit_text(alloc, bench, edit, external, input, line))
+        }
+        _ => None,
+    }
+}
+
+/// Returns the lines on the fault of an edit.
+fn edit_text<'x>(
+    alloc: Global,
+    bench: &Bench,
+    edit: &RefusedEdit,
+    external: &'x str,
+    input: &'x str,
+    line: u64,
+) -> FaultText {
+    let script = bench.script().print(alloc)?;
+    let first = usize::try_from(line).unwrap_or(usize::MAX);
+    let typed = TypedBlock {
+        block: edit.text.as_slice(),
+        script: script.as_bytes(),
+        external,
+        takes_heads: false,
+        source: Some((input, first)),
+    };
+    block_text(alloc, edit.line.as_str(), typed)
+}
+
+/// Returns what there is to say on the script that work does not begin with, without characters that a terminal obeys. Returns `None` if
+/// there is nothing to say, or if an allocation fails.
+pub fn start_text(alloc: Global, paths: &Paths, text: &[u8]) -> Option<String> {
+    let path = paths.from.as_ref().unwrap_or(&paths.script);
+    plain_if_any(file_text(alloc, path.as_str(), text, paths.external.as_str()))
+}
+
+/// Returns what there is to say on a text that work refuses, without characters that a terminal obeys. Returns `None` if there is nothing to
+/// say, or if an allocation fails.
+pub fn refused_source_text(
+    alloc: Global,
+    bench: &Bench,
+    paths: &Paths,
+    refused: &RefusedSource,
+) -> Option<String> {
+    plain_if_any(source_text(alloc, bench, paths.external.as_str(), refused))
+}
+
+/// Returns the lines on the fault of a file or of a block.
+fn source_text(alloc: Global, bench: &Bench, external: &str, refused: &RefusedSource) -> FaultText {
+    match refused {
+        RefusedSource::File { path, text } => file_text(alloc, path.as_str(), text, external),
+        RefusedSource::Block { line, text } => {
+            let script = bench.script().print(alloc)?;
+            work_block_text(alloc, script.as_bytes(), external, line.as_str(), text)
+        }
+    }
+}
+
+/// Returns the lines on the fault of the block after a line of work.
+fn work_block_text<'x>(
+    alloc: Global,
+    script: &'x [u8],
+    external: &'x str,
+    line: &'x str,
+    block: &'x [u8],
+) -> FaultText {
+    let typed = TypedBlock {
+        block,
+        script,
+        external,
+        takes_heads: true,
+        source: None,
+    };
+    block_text(alloc, line, typed)
+}
+
+/// Returns the number of lines before the commands of an input. If the line `.` after the words is not among its first bytes, each line of
+/// the words is taken for a word of the bench.
+pub fn lines_before(bytes: &[u8], bench: &Bench) -> u64 {
+    let (script, words) = match split_at_point(bytes) {
+        Some((number, rest)) => (number, rest),
+        None => (0, b"".as_slice()),
+    };
+    let words = match split_at_point(words) {
+        Some((number, _)) => number,
+        None => (bench.len() as u64).saturating_add(1),
+    };
+    script.saturating_add(words)
+}
