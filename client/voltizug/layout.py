@@ -157,11 +157,13 @@ def percent(part: int, whole: int) -> str:
 
 def families_line(pairs: Tuple[Any, ...]) -> str:
     """Returns the figures of the families before and after an edit."""
-    parts = []
-    for what, part, whole in (("understemmed", "apart", "within"), ("overstemmed", "joined", "across")) if pairs else ():
-        old, new, all_ = int(getattr(pairs[0], part)), int(getattr(pairs[1], part)), int(getattr(pairs[1], whole))
+    if not pairs:
+        return ""
+    parts, (before, now) = [], pairs
+    for what, part, whole in (("understemmed", "apart", "within"), ("overstemmed", "joined", "across")):
+        old, new, all_ = int(getattr(before, part)), int(getattr(now, part)), int(getattr(now, whole))
         parts.append("%s %s{:,} of {:,} pairs%s".format(new, all_) % (what, "" if old == new else "{:,} -> ".format(old), percent(new, all_)))
-    return "families: " + ", ".join(parts) if parts else ""
+    return "families: " + ", ".join(parts)
 
 
 def coloured(line: str) -> str:

@@ -9,6 +9,11 @@ from .places import BOM
 from .program import LONGEST, encoded
 from .words import converting, in_shell
 
+
+def is_overlong(text: str) -> bool:
+    return len(encoded(text)) > LONGEST
+
+
 # What a line may have, and what is said of it. {file} is the file's name as a shell has it, {converting} how it becomes UTF-8.
 Kind = Tuple[Callable[[str], Any], str, str]
 NOT_UTF8: Kind = (re.compile("[\udc80-\udcff]").search, "not UTF-8", ". {converting}")
@@ -16,9 +21,8 @@ DECOMPOSED: Kind = (
     lambda text: not text.isascii() and len(unicodedata.normalize("NFC", text)) < len(text), "a letter and its accent are two characters (NFD)",
     ", and one character (NFC) does not match them. To compose them: uconv -x any-nfc {file} > NEW",
 )
-IS_LONG: Callable[[str], Any] = lambda text: len(encoded(text)) > LONGEST
-LONG_LINE: Kind = (IS_LONG, "more than 65,536 bytes", ". run, check, filter and session refuse such a line (72 LineTooLong). Break it")
-LONG_WORD: Kind = (IS_LONG, "more than 65,536 bytes, which no line may have", ". Write one word on each line")
+LONG_LINE: Kind = (is_overlong, "more than 65,536 bytes", ". run, check, filter and session refuse such a line (72 LineTooLong). Break it")
+LONG_WORD: Kind = (is_overlong, "more than 65,536 bytes, which no line may have", ". Write one word on each line")
 OF_WORDS: Sequence[Kind] = (
     (
         re.compile(r"^[^\S\n]|[^\S\n]$", re.M).search, "a blank at an end of the word, which belongs to it",
@@ -35,16 +39,21 @@ BETWEEN = (
 
 
 def on_lines(name: str, path: str, text: str, kind: Kind) -> List[str]:
-    """Returns the warning on the lines of a kind: on the first one, and how many more there are."""
+    """Returns the warning on the lines of a kind."""
     condition, what, then = kind
     found = [number for number, line in enumerate(text.split("\n"), 1) if condition(line)] if condition(text) else []
+    return on_numbers(name, path, found, what, then)
+
+
+def on_numbers(name: str, path: str, found: Sequence[int], what: str, then: str) -> List[str]:
+    """Returns the warning on lines of these numbers: on the first one, and how many more there are."""
     others = " (and {:,} more {})".format(len(found) - 1, "line" if len(found) == 2 else "lines") if len(found) > 1 else ""
     return ["%s:%d: %s%s%s" % (name, found[0], what, others, then.format(file=in_shell(path), converting=converting(path)))] if found else []
 
 
 def on_several(name: str, path: str, text: str) -> List[str]:
-    """Returns the warnings on lines with several words, as in a table, and on words that are there already."""
-    lines, said, there = [line.strip() for line in text.split("\n")], [], set()  # type: List[str], List[str], Set[str]
+    """Returns the warnings on lines with several words, as in a table or a running text."""
+    lines, said = [line.strip() for line in text.split("\n")], []  # type: List[str], List[str]
     for sign, what, command in BETWEEN:
         rows = [line.split(sign.strip(" ") or None) for line in lines if sign in line]
         words, is_most = [sum(not re.search("[0-9]", cell) for cell in set(cells)) for cells in zip(*rows[:1000])], 2 * len(rows) > len(lines)
@@ -53,9 +62,19 @@ def on_several(name: str, path: str, text: str) -> List[str]:
             then = ". A line is one word" + ". If this is running text: tr -s ' ' '\\n' < {file} > NEW" * is_most
         if is_most or sign in " \t":
             said += on_lines(name, path, text, (lambda line: sign in line.strip(), what + " the word, which belongs to it", then))
-    again = ". It counts once, and approve writes one stem for it. To take repeats away: awk '!there[$0]++' {file} > NEW"
-    is_there = lambda line: "\n" in line or line and (line in there or there.add(line))  # noqa: E731
-    return said + on_lines(name, path, text, (is_there, "a word that is there already", again))
+    return said
+
+
+def on_repeats(name: str, path: str, text: str) -> List[str]:
+    """Returns the warning on words that are there already."""
+    there, found = set(), []  # type: Set[str], List[int]
+    for number, line in enumerate(text.split("\n"), 1):
+        if line in there:
+            found.append(number)
+        elif line:
+            there.add(line)
+    then = ". It counts once, and approve writes one stem for it. To take repeats away: awk '!there[$0]++' {file} > NEW"
+    return on_numbers(name, path, found, "a word that is there already", then)
 
 
 def on_whole(path: str, data: bytes) -> List[str]:
@@ -83,7 +102,7 @@ def on_file(path: str, is_list: bool) -> List[str]:
         return said
     if re.search(r"\bexternals\s*\(", text):
         return [*said, name + ": this looks like a script, and each of its lines is a word here"]
-    said += [line for kind in OF_WORDS for line in on_lines(name, path, text, kind)] + on_several(name, path, text)
+    said += [line for kind in OF_WORDS for line in on_lines(name, path, text, kind)] + on_several(name, path, text) + on_repeats(name, path, text)
     return said + [name + ": no words. Write one word on each line; add WORD adds one"] * (not text.strip("\n"))
 
 
