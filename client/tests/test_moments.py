@@ -1,5 +1,5 @@
 """2,000 random moments of `work` at a terminal, from seeds: saves, other sizes of the window, keys, pastes, Ctrl-C, a program that is killed, and
-a terminal that is closed. After each storm there is a prompt, and an edit that was typed is in force, was said to be put aside, or is offered
+a terminal that is closed. After each storm there is a prompt, and an edit that was typed is in the script, was said to be put aside, or is offered
 by the next start. MOMENTS=N plays N of them.
 """
 import contextlib
@@ -24,7 +24,7 @@ COMMANDS = (
     "foo", "families\rw1 w2\r.", "reload", "limit 2000", "limit 100000", "counts", "find w1", "uses r", "help", "history", "lint", "add new", "remove new",
     "classes > out", "routine r\r( nothing )\r.", "routine plurall\rtrue\r.", "\x1b[200~routine r\rtrue\r.\r\x1b[201~", "replace my.sbl", "replace none",
 )
-# They leave the text in force as it is.
+# They leave the current text as it is.
 HARMLESS = ("stems", "why w1", "foo", "class w1x", "limit 2000", "routine plurall\rtrue\r.", "routine r\r( nothing )\r.", "find w1", "help", "stats")
 ENDS: List[Callable[[Terminal], None]] = [
     lambda terminal: os.close(terminal.end), lambda terminal: os.kill(terminal.child, signal.SIGHUP), lambda terminal: os.kill(terminal.child, signal.SIGTERM),

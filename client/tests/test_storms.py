@@ -59,7 +59,7 @@ class Storms(Case):
         terminal.save(TEXT.replace("define stem as", "define stem as ("))
         self.assertIn("Nothing changed.", terminal.got(rb"Nothing changed\."))
         terminal.save(TEXT)
-        terminal.got(rb"in force|differs from the mark|since the mark")
+        terminal.got(rb"current script|differs from the mark|since the mark")
 
     def test_ctrl_c_at_random_moments(self):
         chance = random.Random(5)

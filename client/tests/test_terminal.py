@@ -335,13 +335,13 @@ class Traps(Case):
         self.assertIn("my.sbl: the script is empty", terminal.got(rb"Correct it"))
 
     def test_a_watched_file_that_is_gone(self):
-        """It is said once, what is in force stays, and the file is read when it is there again, also with its former text."""
+        """It is said once, the current script stays, and the file is read when it is there again, also with its former text."""
         terminal = self.begin()
         terminal.enter("routine plural", "true", ".")
         script, other = (os.path.join(self.folder, name) for name in ("my.sbl", "other.sbl"))
         terminal.type("class glas", rb"glas$")
         os.rename(script, other)
-        gone = "my.sbl is gone (deleted or renamed). The script in force stays: save FILE keeps it. When my.sbl is there again, it is read."
+        gone = "my.sbl is gone (deleted or renamed). The current script stays: save FILE writes it. When my.sbl is there again, it is read."
         self.assertIn(gone, " ".join(terminal.got(rb"read\.\n(.|\n)*glas$", 5).replace("\n    ", " ").split("\n")))
         self.assertIn("glass: glass", terminal.type("s\r"))
         self.assertEqual(terminal.got(None, 1.5), "")

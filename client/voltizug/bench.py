@@ -244,7 +244,7 @@ class Bench(Stage):
             return "fault gone" if had_fault else "unchanged" if self.file_text == now.text else "same"
         if word == "undo" and before.text == self.file_text != now.text:
             return "undone in file"
-        return "in force" if word not in ("undo", "redo", "reload") and (is_not_held or before == now) else ""
+        return "the same script" if word not in ("undo", "redo", "reload") and (is_not_held or before == now) else ""
 
     def note_text(self, word: str, before: Moment, history: Sequence[Any]) -> Optional[Tuple[str, ...]]:
         """Notes which texts files have. Returns the names of the typed edits that a reload put aside."""

@@ -179,7 +179,7 @@ class Desk:
         status = self.bench.program.stop() or 0
         how = ", by signal %d" % -status if status < 0 else " with status %s" % status
         why = "The program was ended from outside%s. It" % how if reply.state == ENDED else "Breaking off: the program"
-        self.screen.say(why + " is started again with the script in force.")
+        self.screen.say(why + " is started again with the current script.")
 
     def is_done(self, reply: Reply, line: str) -> bool:
         """Whether a command was done; otherwise says why not."""

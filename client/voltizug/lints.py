@@ -51,7 +51,7 @@ def lints(bench: Bench, has_all: bool = False) -> List[str]:
 
 
 def spot(places: Places, start: int) -> str:
-    """Returns the place of a byte of the text in force, in SCRIPT or in what was typed."""
+    """Returns the place of a byte of the current text, in SCRIPT or in what was typed."""
     home = next((name for name, row in places.definitions.items() if int(row.start) <= start < int(row.end)), "")
     return places.at(home, start) if home else "%s:%d:%d" % (places.script, *line_and_column(places.text, start))
 

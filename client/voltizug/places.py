@@ -1,4 +1,4 @@
-"""Where things are in the text in force, by the rows of `places` and `tokens`, and where that is in SCRIPT. No script is read here."""
+"""Where things are in the current text, by the rows of `places` and `tokens`, and where that is in SCRIPT. No script is read here."""
 from bisect import bisect_left
 from typing import Any, Dict, List, Optional, Sequence, Tuple
 
@@ -12,7 +12,7 @@ TURNING, GROWING = ("repeat", "goto", "gopast", "loop", "atleast"), ("<-", "<+",
 
 
 class Places:
-    """The rows of a text in force; `file_text` is what SCRIPT had when it was read. Without rows nothing has a place."""
+    """The rows of a current text; `file_text` is what SCRIPT had when it was read. Without rows nothing has a place."""
 
     def __init__(self, script: str, text: bytes, file_text: Optional[bytes], rows: Sequence[Any], tokens: Sequence[Token]):
         self.script, self.text, self.file_text, self.tokens, self.starts = script, text, file_text, tokens, [token.start for token in tokens]
@@ -40,7 +40,7 @@ class Places:
         return self.at(name, int(row.start)) if row else ""
 
     def at(self, name: str, start: int) -> str:
-        """Returns the place of a byte of the text in force that is in the definition of a name."""
+        """Returns the place of a byte of the current text that is in the definition of a name."""
         home, first = self.definitions[name], self.in_file(name)
         if first is not None:
             return "%s:%d:%d%s" % (self.script, *line_and_column(self.file_text or b"", first + start - int(home.start)), self.note)

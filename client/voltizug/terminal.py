@@ -368,7 +368,7 @@ class Terminal(Desk):
             path = os.path.join(self.bench.kept.folder, "fault")
             with contextlib.suppress(OSError), open(path, "w", encoding="utf-8") as file:
                 traceback.print_exc(file=file)
-            self.screen.say("This client has a fault: what it was doing is in %s. The script in force and your edits are as they were." % path)
+            self.screen.say("This client has a fault: what it was doing is in %s. The current script and your edits are as they were." % path)
         return True
 
     def run(self) -> int:

@@ -52,16 +52,16 @@ MAY_NOT: Dict[str, str] = {
 }
 # What is said of a file that is watched and gone.
 GONE: Dict[str, str] = {
-    "script": "{path} is gone (deleted or renamed). The script in force stays: save FILE keeps it. When {path} is there again, it is read.",
+    "script": "{path} is gone (deleted or renamed). The current script stays: save FILE writes it. When {path} is there again, it is read.",
     "words": "{path} is gone (deleted or renamed). The words that were read stay.",
     "waiting": "{path} is gone (deleted or renamed). It is read when it is there again.",
 }
 NOTES: Dict[str, str] = {
     "unchanged": "{script} has not changed since it was read.",
-    "same": "{script} has the script in force.",
-    "fault gone": "The fault is gone: {script} has the script in force again.",
+    "same": "{script} has the current script.",
+    "fault gone": "The fault is gone: {script} has the current script again.",
     "undone in file": "{script} still has what undo took back: Enter reads it again.",
-    "in force": "This was in force already, so undo does not count it.",
+    "the same script": "The script has this already, so undo does not count it.",
 }
 REFUSALS: Dict[str, str] = {
     "Slice": "delete, <- or -> found the left end of the slice right of its right end, or the right end beyond the limit. Look for a [ or ] that "
