@@ -1,13 +1,13 @@
 -- Edits of the setting of a bench that are remembered.
 use Rattle.std.specs.Prelude.{◌≡◌, ◌⊎◌, ℕ, List, Option, Result, Ok, Err}
 use Rattle.sbl_bench.specs.Contents.{Contents}
-use Rattle.sbl_bench.specs.BreakingOff.{EditsOrBreaks}
 use Rattle.sbl_bench.specs.Edits.{Edit, Edits, Replace}
 use Rattle.sbl_bench.specs.declared.fault.EditFault.{EditFault}
 use Rattle.sbl_bench.specs.declared.fault.EditFault.TheVariants as fault
 use Rattle.sbl_print.specs.Canonical.{canonical}
 use Rattle.sbl_script.specs.Edits.{ScriptEdit}
-use Rattle.sbl_history.specs.Desks.{State, text_in}
+use Rattle.sbl_history.specs.Desks.{KeepsRest, State, text_in}
+use Rattle.sbl_history.specs.MayBreak.{EditsOrBreaksIf}
 use Rattle.sbl_history.specs.History.{EditKind, OfLimit, OfPart, PastEdit, ToLimit, ToText, remember_edit}
 use Rattle.sbl_history.specs.Splicing.{IsTextOf}
 
@@ -24,15 +24,14 @@ Remembers kind text unless d e =
 -- text is the same after it.
 pub record IsNoted (kind : EditKind) (s t : Contents) (d e : State) (text : Option (List ℕ)) : Type 0 where
   pub text_is : e.text ≡ text
-  pub marked : e.marked ≡ d.marked
-  pub refused : e.refused ≡ d.refused
+  pub rest : KeepsRest d e
   pub past : Remembers kind (text_in s d.text) (SameText s t) d e
 
 -- The bench makes an edit of the script, and the desk notes it with its kind and this text. After a fault, and if the edit is broken
--- off, the desk is unchanged.
+-- off, as the desk may allow, the desk is unchanged.
 abbrev pub Replaces : Result (Unit {0}) EditFault → EditKind → Edit → Option (List ℕ) → Contents → State → Contents → State → Type 0
 Replaces (Ok u) kind edit text s d t e = Edits (Ok u) s edit t × IsNoted kind s t d e text
-Replaces (Err f) kind edit text s d t e = EditsOrBreaks (Err f) s edit t × (e ≡ d)
+Replaces (Err f) kind edit text s d t e = EditsOrBreaksIf d.may_break (Err f) s edit t × (e ≡ d)
 
 -- The same for a part of the script. The text that is kept then is a text of the current script, if any is kept; or an allocation
 -- failed before anything was tried.

@@ -2,6 +2,7 @@
 pub mod History
 pub mod Listing
 pub mod Refused
+pub mod MayBreak
 pub mod Desks
 pub mod Editing
 pub mod Splicing

@@ -8,7 +8,7 @@ ghost use Rattle.sbl_bench.specs.KeptRuns.{contents_of};
 ghost use Rattle.sbl_print.specs.Canonical.{canonical};
 ghost use Rattle.sbl_rows.specs.Rows.{view_row};
 ghost use Rattle.sbl_rows.specs.StemRows.{rows_with};
-ghost use Rattle.sbl_history.specs.Desks.{Redoes, TurnBreaksIfTold, Undoes, state_of, text_in, view_kind, view_text};
+ghost use Rattle.sbl_history.specs.Desks.{KeepsRest, Redoes, TurnBreaksIfTold, Undoes, first_desk, state_of, text_in, view_kind, view_text};
 ghost use Rattle.sbl_history.specs.History.{OfScript};
 ghost use Rattle.sbl_history.specs.Listing as listing;
 ghost use Rattle.sbl_history.specs.Refused.{view_refused};
@@ -16,6 +16,7 @@ ghost use Rattle.sbl_history.specs.{Editing.NotesLimit, Editing.Remembers, Editi
 ghost use Rattle.sbl_script.specs.Parts.{view_part};
 
 use crate::history::{HistoryFault, text_of, turn};
+use crate::breaking::{replace_part, replace_script};
 use crate::kinds::HeldKind;
 use crate::listing::history_text;
 use crate::marks::{MarkedRow, copy_rows, rows_of_stems, views_of};
@@ -37,6 +38,8 @@ pub struct Desk {
     marked: Vec<MarkedRow>,
     // the text that was refused last, unless one was accepted since
     refused: Option<Refused>,
+    // whether edits may be broken off
+    may_break: bool,
 }
 
 /// The script before an edit.
@@ -47,13 +50,19 @@ struct Before {
 }
 
 impl Desk {
-    /// Returns the desk of a bench whose script was read from this text. The mark is set; there is nothing to undo or redo.
+    /// Returns the desk of a bench whose script was read from this text. The mark is set; there is nothing to undo or redo. Edits may
+    /// be broken off if `may_break` is true.
     ///
     /// # Errors
     ///
     /// Returns `AllocError` if an allocation fails.
-    pub fn new(alloc: Global, bench: &Bench, text: Vec<u8>) -> Result<Desk, AllocError>
-        ensures { IfOk result (λ d. state_of d ≡ record { text = Some text.items; past = record { earlier = []; later = [] }; marked = rows_now (contents_of bench.now); refused = None }) }
+    pub fn new(
+        alloc: Global,
+        bench: &Bench,
+        text: Vec<u8>,
+        may_break: bool,
+    ) -> Result<Desk, AllocError>
+        ensures { IfOk result (λ d. state_of d ≡ first_desk may_break (contents_of bench.now) text.items) }
     {
         let marked = copy_rows(alloc, bench)?;
         let history = History::new(alloc)?;
@@ -63,7 +72,15 @@ impl Desk {
             history,
             marked,
             refused: None,
+            may_break,
         })
+    }
+
+    /// Returns whether edits may be broken off.
+    pub fn may_break(&self) -> bool
+        ensures { result ≡ (state_of self.now).may_break }
+    {
+        self.may_break
     }
 
     /// Returns the rows at the mark, in the order of the vocabulary then.
@@ -130,8 +147,7 @@ impl Desk {
     /// Notes an edit of the script, with the text after it. Remembers the edit unless the canonical text is the same.
     fn note(&mut self, bench: &Bench, kind: HeldKind, before: Before, text: Option<Vec<u8>>)
         ensures text { (state_of self.new).text ≡ view_text text }
-        ensures marked { (state_of self.new).marked ≡ (state_of self.old).marked }
-        ensures refused { (state_of self.new).refused ≡ (state_of self.old).refused }
+        ensures rest { KeepsRest (state_of self.old) (state_of self.new) }
         ensures past { Remembers (view_kind kind) before.text.items (canonical (contents_of bench.now).setting.script.items ≡ string_bytes before.canonical) (state_of self.old) (state_of self.new) }
     {
         self.text = text;
@@ -144,11 +160,12 @@ impl Desk {
         });
     }
 
-    /// Replaces the whole script, as `Bench::replace_script_or_break` does, and remembers the edit if it changed the script.
+    /// Replaces the whole script, as `Bench::replace_script` does, and remembers the edit if it changed the script.
     ///
     /// # Errors
     ///
-    /// Returns the faults of `Bench::replace_script_or_break`. Then the desk is unchanged.
+    /// Returns the faults of `Bench::replace_script`, and `BrokenOff` if edits may be broken off and `break_off` says so before a run. Then
+    /// the desk is unchanged.
     #[tactic(auto, using(crate::proofs::Refusing::nothing_tried))]
     pub fn replace<B: BreakOff>(
         &mut self,
@@ -162,19 +179,19 @@ impl Desk {
     {
         let kept = Vec::from_slice(self.alloc, text)?;
         let before = self.before(bench)?;
-        bench.replace_script_or_break(text, break_off)?;
+        replace_script(bench, text, self.may_break, break_off)?;
         self.note(bench, HeldKind::Script, before, Some(kept));
         Ok(())
     }
 
-    /// Replaces a part of the script by a text, as `Bench::replace_or_break` does, and remembers the edit if it changed the script. The
+    /// Replaces a part of the script by a text, as `Bench::replace` does, and remembers the edit if it changed the script. The
     /// current text is the text before with this part put into it, if that is a text of the script after the edit; otherwise the
     /// canonical text.
     ///
     /// # Errors
     ///
-    /// Returns the faults of `Bench::replace_or_break`. Returns `OutOfMemory` also if an allocation fails before the edit is tried. Then
-    /// the desk is unchanged.
+    /// Returns the faults of `Bench::replace`, and `BrokenOff` if edits may be broken off and `break_off` says so before a run. Returns
+    /// `OutOfMemory` also if an allocation fails before the edit is tried. Then the desk is unchanged.
     pub fn replace_part<B: BreakOff>(
         &mut self,
         bench: &mut Bench,
@@ -190,7 +207,7 @@ impl Desk {
         let before = self.before(bench)?;
         let external = bench.script().external();
         let found = splice(self.alloc, &before.text, external, part, text)?;
-        bench.replace_or_break(part, text, break_off)?;
+        replace_part(bench, part, text, self.may_break, break_off)?;
         let kept = text_in_force(self.alloc, bench, found);
         self.note(bench, kind, before, kept);
         Ok(())
@@ -200,7 +217,7 @@ impl Desk {
     ///
     /// # Errors
     ///
-    /// Returns `Nothing` if there is none, and `Edit` with the fault of the bench: `MeterFull`, `OutOfMemory` or `BrokenOff`, or
+    /// Returns `Nothing` if there is none, and `Edit` with the fault of the bench: `MeterFull`, `OutOfMemory`, `BrokenOff` as `replace`, or
     /// `Script` with `ScriptTooLong` if the script before was made by an edit of a part and its canonical text has more than 1,048,576
     /// bytes. Then nothing changes but, maybe, the count of runs.
     pub fn undo<B: BreakOff>(
@@ -212,11 +229,12 @@ impl Desk {
         ensures untold { OnOk result (B.said break_off.new ≡ B.said break_off.old) }
         ensures told { IfErr result (λ f. TurnBreaksIfTold (B.said break_off.old) (B.said break_off.new) f) }
     {
+        let may_break = self.may_break;
         let text = &mut self.text;
         let past = &mut self.history;
         let from = &mut past.earlier;
         let to = &mut past.later;
-        turn(self.alloc, bench, text, from, to, break_off)
+        turn(self.alloc, bench, text, from, to, may_break, break_off)
     }
 
     /// Redoes the edit that was undone last.
@@ -233,11 +251,12 @@ impl Desk {
         ensures untold { OnOk result (B.said break_off.new ≡ B.said break_off.old) }
         ensures told { IfErr result (λ f. TurnBreaksIfTold (B.said break_off.old) (B.said break_off.new) f) }
     {
+        let may_break = self.may_break;
         let text = &mut self.text;
         let past = &mut self.history;
         let from = &mut past.later;
         let to = &mut past.earlier;
-        turn(self.alloc, bench, text, from, to, break_off)
+        turn(self.alloc, bench, text, from, to, may_break, break_off)
     }
 
     /// Keeps a text that was refused, in place of the last one.

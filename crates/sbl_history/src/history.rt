@@ -1,10 +1,12 @@
 //! The edits that can be undone and redone.
 ghost use Rattle.std.specs.Prelude.{◌≡◌, ◌≤◌, ◌<◌, ◌+◌, ◌-◌, ◌++◌, ◌∷◌, [], Some, drop, length, map, IfErr, IfOk, OnOk, OnErr, vec_len, vec_capacity};
-ghost use Rattle.sbl_bench.specs.BreakingOff.{BreaksIfTold, EditsOrBreaks};
+ghost use Rattle.sbl_bench.specs.BreakingOff.{BreaksIfTold};
 ghost use Rattle.sbl_bench.specs.KeptRuns.{contents_of};
 ghost use Rattle.sbl_history.specs.Desks.{TurnBreaksIfTold, Turns, back, past_of, text_after, text_in, view_edit, view_edits, view_step, view_text};
+ghost use Rattle.sbl_history.specs.MayBreak.{EditsOrBreaksIf};
 ghost use Rattle.sbl_history.specs.History.{ToLimit, ToText, edit_of, latest, remember_edit};
 
+use crate::breaking::{replace_script, set_limit};
 use crate::steps::{HeldEdit, History, Step};
 use sbl_bench::{Bench, BreakOff, EditFault};
 use std::alloc::{AllocError, Global};
@@ -78,12 +80,13 @@ pub(crate) fn turn<B: BreakOff>(
     text: &mut Option<Vec<u8>>,
     from: &mut Vec<HeldEdit>,
     to: &mut Vec<HeldEdit>,
+    may_break: bool,
     break_off: &mut B,
 ) -> Result<(), HistoryFault>
     requires few { vec_len from.old + vec_len to.old ≤ 100 }
     requires room { 100 ≤ vec_capacity from.old }
     requires to_room { 100 ≤ vec_capacity to.old }
-    ensures turns { Turns result (contents_of bench.old) (contents_of bench.new) (view_text text.old) (view_text text.new) (view_edits from.old) (view_edits to.old) (view_edits from.new) (view_edits to.new) }
+    ensures turns { Turns may_break result (contents_of bench.old) (contents_of bench.new) (view_text text.old) (view_text text.new) (view_edits from.old) (view_edits to.old) (view_edits from.new) (view_edits to.new) }
     ensures few { vec_len from.new + vec_len to.new ≡ vec_len from.old + vec_len to.old }
     ensures room { vec_capacity from.new ≡ vec_capacity from.old }
     ensures to_room { vec_capacity to.new ≡ vec_capacity to.old }
@@ -93,7 +96,7 @@ pub(crate) fn turn<B: BreakOff>(
     let Some(mut edit) = from.pop() else {
         return Err(HistoryFault::Nothing);
     };
-    match exchange(alloc, bench, text, &mut edit.step, break_off) {
+    match exchange(alloc, bench, text, &mut edit.step, may_break, break_off) {
         Ok(()) => {
             to.push_reserved(edit);
             Ok(())
@@ -111,17 +114,18 @@ fn exchange<B: BreakOff>(
     bench: &mut Bench,
     text: &mut Option<Vec<u8>>,
     step: &mut Step,
+    may_break: bool,
     break_off: &mut B,
 ) -> Result<(), EditFault>
-    ensures edits { EditsOrBreaks result (contents_of bench.old) (edit_of (view_step step.old)) (contents_of bench.new) }
+    ensures edits { EditsOrBreaksIf may_break result (contents_of bench.old) (edit_of (view_step step.old)) (contents_of bench.new) }
     ensures exchanged { OnOk result ((view_step step.new ≡ back (contents_of bench.old) (view_text text.old) (view_step step.old)) × (view_text text.new ≡ text_after (view_text text.old) (view_step step.old))) }
     ensures kept { OnErr result ((step.new ≡ step.old) × (text.new ≡ text.old)) }
     ensures untold { OnOk result (B.said break_off.new ≡ B.said break_off.old) }
     ensures told { IfErr result (λ f. BreaksIfTold (B.said break_off.old) (B.said break_off.new) f) }
 {
     match step {
-        Step::Text(other) => exchange_text(alloc, bench, text, other, break_off),
-        Step::Limit(limit) => exchange_limit(bench, limit, break_off),
+        Step::Text(other) => exchange_text(alloc, bench, text, other, may_break, break_off),
+        Step::Limit(limit) => exchange_limit(bench, limit, may_break, break_off),
     }
 }
 
@@ -132,16 +136,17 @@ fn exchange_text<B: BreakOff>(
     bench: &mut Bench,
     text: &mut Option<Vec<u8>>,
     other: &mut Vec<u8>,
+    may_break: bool,
     break_off: &mut B,
 ) -> Result<(), EditFault>
-    ensures edits { EditsOrBreaks result (contents_of bench.old) (edit_of (ToText other.old.items)) (contents_of bench.new) }
+    ensures edits { EditsOrBreaksIf may_break result (contents_of bench.old) (edit_of (ToText other.old.items)) (contents_of bench.new) }
     ensures exchanged { OnOk result ((other.new.items ≡ text_in (contents_of bench.old) (view_text text.old)) × (view_text text.new ≡ Some other.old.items)) }
     ensures kept { OnErr result ((other.new ≡ other.old) × (text.new ≡ text.old)) }
     ensures untold { OnOk result (B.said break_off.new ≡ B.said break_off.old) }
     ensures told { IfErr result (λ f. BreaksIfTold (B.said break_off.old) (B.said break_off.new) f) }
 {
     let before = text_of(alloc, bench, text)?;
-    bench.replace_script_or_break(other, break_off)?;
+    replace_script(bench, other, may_break, break_off)?;
     *text = Some(replace(other, before));
     Ok(())
 }
@@ -150,16 +155,17 @@ fn exchange_text<B: BreakOff>(
 fn exchange_limit<B: BreakOff>(
     bench: &mut Bench,
     limit: &mut u32,
+    may_break: bool,
     break_off: &mut B,
 ) -> Result<(), EditFault>
-    ensures edits { EditsOrBreaks result (contents_of bench.old) (edit_of (ToLimit limit.old)) (contents_of bench.new) }
+    ensures edits { EditsOrBreaksIf may_break result (contents_of bench.old) (edit_of (ToLimit limit.old)) (contents_of bench.new) }
     ensures exchanged { OnOk result (limit.new ≡ (contents_of bench.old).setting.limit) }
     ensures kept { OnErr result (limit.new ≡ limit.old) }
     ensures untold { OnOk result (B.said break_off.new ≡ B.said break_off.old) }
     ensures told { IfErr result (λ f. BreaksIfTold (B.said break_off.old) (B.said break_off.new) f) }
 {
     let before = bench.limit();
-    bench.set_limit_or_break(u64::from(*limit), break_off)?;
+    set_limit(bench, u64::from(*limit), may_break, break_off)?;
     *limit = before;
     Ok(())
 }

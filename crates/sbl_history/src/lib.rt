@@ -2,6 +2,7 @@
 //! mark. The reports of what changed since then.
 #![tactic(auto)]
 
+mod breaking;
 mod change_reports;
 mod desk;
 mod few;

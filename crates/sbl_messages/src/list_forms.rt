@@ -1,6 +1,6 @@
 //! `run --as FORM`: the forms, and why there is no list or no line of it.
 
-ghost use Rattle.std.specs.Prelude.{◌≡◌, Some, codes};
+ghost use Rattle.std.specs.Prelude.{◌≡◌, ◌≢◌, None, Some, codes};
 
 use crate::counts::count_and_word;
 use crate::failures::plain;
@@ -23,6 +23,7 @@ pub fn list_kind(form: &str) -> Option<ListKind>
     ensures overrides { form.now ≡ codes "override" → result ≡ Some (ListKind.Words ListForm.Override) }
     ensures tsv { form.now ≡ codes "tsv" → result ≡ Some (ListKind.Words ListForm.Tsv) }
     ensures stems { form.now ≡ codes "stems" → result ≡ Some ListKind.Stems }
+    ensures none { form.now ≢ codes "synonym" → form.now ≢ codes "override" → form.now ≢ codes "tsv" → form.now ≢ codes "stems" → result ≡ None }
 {
     match form {
         "synonym" => Some(ListKind::Words(ListForm::Synonym)),

@@ -1,7 +1,7 @@
 //! The files of a run: their names and bytes, and why a run over them fails.
 
-ghost use Rattle.std.specs.Prelude.{◌≡◌, ◌≢◌, ◌&&◌, Err, IsOk, IsTrue, None, Option, String, codes, false, if◌then◌else◌};
-ghost use Rattle.std.specs.Str.{bytes_eq};
+ghost use Rattle.std.specs.Prelude.{◌≡◌, ◌&&◌, IfErr, IfSome, None, Option, String, codes, false, if◌then◌else◌, is_err};
+ghost use Rattle.sbl_messages.specs.InputNames.{is_input, two_of};
 ghost use Rattle.snowbench.specs.ScriptFiles.{cause_of};
 
 use crate::failures::{FAILED, Failure, REFUSED};
@@ -55,20 +55,29 @@ impl RunFiles<'_> {
 
 /// Returns whether more than one of the files is standard input.
 pub fn reads_twice(names: FileNames<'_>) -> bool
-    ensures two { names.entry.rest ≡ None → result ≡ (bytes_eq names.entry.script.now (codes "-") && bytes_eq names.entry.words.now (codes "-")) }
-    ensures both { names.entry.script.now ≡ codes "-" → names.entry.words.now ≡ codes "-" → IsTrue result }
-    ensures other { names.entry.script.now ≢ codes "-" → names.entry.words.now ≢ codes "-" → result ≡ false }
+    ensures two { names.entry.rest ≡ None → result ≡ (is_input names.entry.script.now && is_input names.entry.words.now) }
+    ensures three { IfSome names.entry.rest (λ rest. result ≡ two_of (is_input names.entry.script.now) (is_input names.entry.words.now) (is_input rest.now)) }
 {
     let script = names.script == "-";
     let words = names.words == "-";
-    let rest = names.rest == Some("-");
-    (script && words) || (script && rest) || (words && rest)
+    match names.rest {
+        Some(rest) => are_two(script, words, rest == "-"),
+        None => script && words,
+    }
 }
 
-/// Refuses names of which more than one is standard input, with this line.
+/// Returns whether at least two of these hold.
+fn are_two(first: bool, second: bool, third: bool) -> bool
+    ensures { result ≡ two_of first second third }
+{
+    (first && second) || (first && third) || (second && third)
+}
+
+/// Returns the failure with this line, and status 2, if more than one of the files is standard input.
 pub fn refuse_twice(names: FileNames<'_>, line: &'static str) -> Result<(), Failure>
-    ensures both { names.entry.script.now ≡ codes "-" → names.entry.words.now ≡ codes "-" → result ≡ Err (Failure.Fixed line.entry 2) }
-    ensures other { names.entry.script.now ≢ codes "-" → names.entry.words.now ≢ codes "-" → IsOk result }
+    ensures two { names.entry.rest ≡ None → is_err result ≡ (is_input names.entry.script.now && is_input names.entry.words.now) }
+    ensures three { IfSome names.entry.rest (λ rest. is_err result ≡ two_of (is_input names.entry.script.now) (is_input names.entry.words.now) (is_input rest.now)) }
+    ensures line { IfErr result (λ f. f ≡ Failure.Fixed line.entry 2) }
 {
     if reads_twice(names) {
         return Err(Failure::Fixed(line, REFUSED));
@@ -78,7 +87,7 @@ pub fn refuse_twice(names: FileNames<'_>, line: &'static str) -> Result<(), Fail
 
 /// Returns the name of a file, as people call it.
 pub fn file_name(path: &str) -> &str
-    ensures { result.now ≡ (if bytes_eq path.now (codes "-") then codes "standard input" else path.now) }
+    ensures { result.now ≡ (if is_input path.now then codes "standard input" else path.now) }
 {
     if path == "-" { STANDARD_INPUT } else { path }
 }

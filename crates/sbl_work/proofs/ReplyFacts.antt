@@ -27,7 +27,7 @@ use Rattle.sbl_work.specs.FaultReplies.{kept_after, refused_part, refused_whole}
 use Rattle.sbl_history.specs.Editing.{IsLimitNoted, Replaces}
 use Rattle.sbl_history.specs.History.{OfScript}
 use Rattle.sbl_work.specs.Replies.{IsWorkReply, ReplacesKept, TellsReport, not_text_text, rows_or_fault}
-use Rattle.sbl_work.specs.ReplyViews.{IsFamiliesAnswer, IsFileAnswer, IsKeptPart, IsPartResult, IsTextResult, IsWorkAnswer, NamesText}
+use Rattle.sbl_work.specs.ReplyViews.{IsFamiliesAnswer, IsFileAnswer, IsKeptPart, IsPartResult, IsSessionAnswer, IsTextResult, IsWorkAnswer, NamesText}
 use Rattle.sbl_history.proofs.Refusing.{nothing_tried}
 
 -- ---- any command
@@ -36,11 +36,14 @@ use Rattle.sbl_history.proofs.Refusing.{nothing_tried}
 pub same_command : (s t : Contents) (d e : State) (a b : WorkCommand) (r : Reply) → a ≡ b → IsWorkAnswer s d a r t e → IsWorkAnswer s d b r t e
 same_command s t d e a b r is answer = subst (λ (x : WorkCommand). IsWorkAnswer s d x r t e) is answer
 
--- a command of a session, which may be broken off
-pub session_answer : (s t : Contents) (d e : State) (k : Command) (r : Reply) (said said_now : Bool) → IsAnswerOrBreak said said_now s k r t → IsLimitNoted s t d e
-    → IsWorkAnswer s d (command.Session k) r t e
-session_answer s t d e k r said said_now (inl a) noted = (a.1.1, a.1.2, (inl (a.1.0, a.1.3), noted))
-session_answer s t d e k r said said_now (inr b) noted = (b.1.0, b.1.1, (inr b.1.2, noted))
+-- a command of a session that may be broken off
+pub session_or_break : (s t : Contents) (k : Command) (r : Reply) (said said_now : Bool) → IsAnswerOrBreak said said_now s k r t → IsSessionAnswer true s k r t
+session_or_break s t k r said said_now (inl a) = (a.1.1, a.1.2, inl (a.1.0, a.1.3))
+session_or_break s t k r said said_now (inr b) = (b.1.0, b.1.1, inr b.1.2)
+
+-- a command of a session, after which the limit before is noted
+pub session_answer : (s t : Contents) (d e : State) (k : Command) (r : Reply) → IsSessionAnswer d.may_break s k r t → IsLimitNoted s t d e → IsWorkAnswer s d (command.Session k) r t e
+session_answer s t d e k r (text, shown, is) noted = (text, shown, (is, noted))
 
 -- a report, or memory for it is refused
 pub reply_is_told : (s : Contents) (d : State) (report : List ℕ) (r : Reply) → IsReply r report ⊎ IsReply r (edit_text (Some fault.OutOfMemory)) → (text : List ℕ) × IsReply r text × TellsReport report s d text s d

@@ -21,8 +21,8 @@ use Rattle.sbl_work.specs.ReplyViews.{IsWorkAnswer}
 
 -- ---- the words in the lines of a file
 
-module _ (bytes : List ℕ) (s : Contents) where
-  line_refused : (g : ServeFault) → first_line_fault (file_lines bytes) ≡ Some g → RereadsWords (Err (load.Input g)) bytes s s
+module _ (may_break : Bool) (bytes : List ℕ) (s : Contents) where
+  line_refused : (g : ServeFault) → first_line_fault (file_lines bytes) ≡ Some g → RereadsWords may_break (Err (load.Input g)) bytes s s
   line_refused serve.OutOfMemory is = refl
   line_refused serve.Read is = (is, refl)
   line_refused serve.Write is = (is, refl)
@@ -32,13 +32,13 @@ module _ (bytes : List ℕ) (s : Contents) where
   line_refused serve.NotText is = (is, refl)
 
   -- a line is no word, or an allocation fails
-  pub words_unread : (f : LoadFault) → (f ≡ load.Input serve.OutOfMemory) ⊎ IsLineFault bytes f → RereadsWords (Err f) bytes s s
-  words_unread f (inl same) = subst (λ (x : LoadFault). RereadsWords (Err x) bytes s s) (sym same) refl
+  pub words_unread : (f : LoadFault) → (f ≡ load.Input serve.OutOfMemory) ⊎ IsLineFault bytes f → RereadsWords may_break (Err f) bytes s s
+  words_unread f (inl same) = subst (λ (x : LoadFault). RereadsWords may_break (Err x) bytes s s) (sym same) refl
   words_unread f (inr is) = by (first_line_fault (file_lines bytes)) refl is
     where
-      by : (o : Option ServeFault) → first_line_fault (file_lines bytes) ≡ o → option_map load.Input o ≡ Some f → RereadsWords (Err f) bytes s s
+      by : (o : Option ServeFault) → first_line_fault (file_lines bytes) ≡ o → option_map load.Input o ≡ Some f → RereadsWords may_break (Err f) bytes s s
       by None e h = cc h
-      by (Some g) e h = let same : load.Input g ≡ f = cc h in subst (λ (x : LoadFault). RereadsWords (Err x) bytes s s) same (line_refused g e)
+      by (Some g) e h = let same : load.Input g ≡ f = cc h in subst (λ (x : LoadFault). RereadsWords may_break (Err x) bytes s s) same (line_refused g e)
 
   -- the words are those of the edit
   pub words_edit : (t : Contents) (r : Result (Unit {0}) EditFault) (ws : List (List ℕ)) → ws ≡ file_words bytes → Edits r s (bench.Words ws) t → Edits r s (bench.Words (file_words bytes)) t
@@ -46,7 +46,7 @@ module _ (bytes : List ℕ) (s : Contents) where
 
 -- ---- the reply
 
-pub words_answer : (s t : Contents) (d : State) (bytes : List ℕ) (result : Result (Unit {0}) LoadFault) (r : Reply) → RereadsWords result bytes s t → IsReply r (words_text result)
+pub words_answer : (s t : Contents) (d : State) (bytes : List ℕ) (result : Result (Unit {0}) LoadFault) (r : Reply) → RereadsWords d.may_break result bytes s t → IsReply r (words_text result)
     → IsWorkAnswer s d (Words bytes) r t d
 words_answer s t d bytes result r rereads shown = (words_text result, shown, (result, rereads, refl, refl))
 

@@ -1,5 +1,5 @@
 -- What the functions inside promise: the reply to the current line of work, with its block, and work over lines.
-use Rattle.std.specs.Prelude.{◌≡◌, ℕ, true, List, Option, Result}
+use Rattle.std.specs.Prelude.{◌≡◌, ℕ, Bool, true, List, Option, Result}
 use Rattle.std.specs.Option.{IfSome, is_some}
 use Rattle.sbl_bench.specs.Contents.{Contents}
 use Rattle.sbl_bench.specs.KeptRuns.{KeptRuns, contents_of}
@@ -55,9 +55,9 @@ Works left held prompt lines new_lines writer new_writer bench desk new_bench ne
     IsWork prompt (input_of left lines) (input_of left new_lines) (held writer) (held new_writer)
     (contents_of bench) (state_of desk) (contents_of new_bench) (state_of new_desk) result
 
--- work over lines and a writer, from a bench and the bytes of its script
+-- work over lines and a writer, from a bench and the bytes of its script; edits may be broken off if this is true
 abbrev pub WorksOnBench : {R W : Type 0} → (R → Option (List ℕ)) → (R → Tally) → (W → Option (List ℕ)) → (W → Tally)
-    → List ℕ → List ℕ → Lines R → Lines R → W → W → KeptRuns → Result (Unit {0}) ServeFault → Type 0
-WorksOnBench left reads held writes bytes prompt lines new_lines writer new_writer bench result =
-    WorksOrMemory (Ends reads writes lines new_lines writer new_writer) bytes prompt
+    → Bool → List ℕ → List ℕ → Lines R → Lines R → W → W → KeptRuns → Result (Unit {0}) ServeFault → Type 0
+WorksOnBench left reads held writes may_break bytes prompt lines new_lines writer new_writer bench result =
+    WorksOrMemory (Ends reads writes lines new_lines writer new_writer) may_break bytes prompt
     (input_of left lines) (input_of left new_lines) (held writer) (held new_writer) (contents_of bench) result

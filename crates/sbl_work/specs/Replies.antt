@@ -3,7 +3,6 @@ use Rattle.std.specs.Prelude.{◌≡◌, ◌⊎◌, ℕ, Bool, true, false, ◌=
 use Rattle.std.specs.Prelude.{Option, Some, None, Result, Ok, Err}
 use Rattle.std.specs.Option.{unwrap_or}
 use Rattle.std.specs.Str.{chars, is_utf8}
-use Rattle.sbl_bench.specs.BreakingOff.{EditsOrBreaks}
 use Rattle.sbl_bench.specs.Contents.{Contents, rows_now}
 use Rattle.sbl_bench.specs.Edits as bench
 use Rattle.sbl_bench.specs.Edits.{Edits, Whole}
@@ -16,6 +15,7 @@ use Rattle.sbl_reports.specs.Block.{max_script}
 use Rattle.sbl_script.specs.Edits.{ScriptEdit}
 use Rattle.sbl_sessions.specs.Answers.{edit_text, with_line_feed}
 use Rattle.sbl_sessions.specs.CommandViews.{IsTextAnswer, IsTextBreak}
+use Rattle.sbl_sessions.specs.Commands.{Command}
 use Rattle.sbl_sessions.specs.EditFaults.{fault_in}
 use Rattle.sbl_explain.specs.Unused as unused
 use Rattle.sbl_explain.specs.Counts.{counts_text}
@@ -41,6 +41,7 @@ use Rattle.sbl_history.specs.Desks.{Redoes, State, Undoes, text_in}
 use Rattle.sbl_history.specs.Editing.{IsLimitNoted, Replaces, ReplacesPart}
 use Rattle.sbl_history.specs.History.{OfScript}
 use Rattle.sbl_history.specs.Listing.{history_text}
+use Rattle.sbl_history.specs.MayBreak.{EditsOrBreaksIf}
 use Rattle.sbl_history.specs.Refused.{RefusedText}
 use Rattle.sbl_reports.specs.Families.{families_in, families_text}
 use Rattle.sbl_source_map.specs.Heads.{IsWithoutHead}
@@ -153,14 +154,15 @@ abbrev pub IsMarkReply : Option (List ℕ) → List ℕ → Contents → State �
 IsMarkReply None bytes s d text t e = SetsMark (rows_with s.words (stems_in bytes)) s d text t e
 IsMarkReply (Some refusal) bytes s d text t e = TellsReport refusal s d text t e
 
--- The words in these bytes replace the vocabulary; or a line is no word, the bench refuses the words, that is broken off, or an
--- allocation fails.
-abbrev pub RereadsWords : Result (Unit {0}) LoadFault → List ℕ → Contents → Contents → Type 0
-RereadsWords (Ok u) bytes s t = (first_line_fault (file_lines bytes) ≡ None) × Edits (Ok u) s (bench.Words (file_words bytes)) t
-RereadsWords (Err (load.Open f)) bytes s t = (first_line_fault (file_lines bytes) ≡ None) × EditsOrBreaks (Err f) s (bench.Words (file_words bytes)) t
-RereadsWords (Err (load.Input serve.OutOfMemory)) bytes s t = t ≡ s
-RereadsWords (Err (load.Input f)) bytes s t = (first_line_fault (file_lines bytes) ≡ Some f) × (t ≡ s)
-RereadsWords (Err (load.Script f)) bytes s t = ⊥
+-- The words in these bytes replace the vocabulary; or a line is no word, the bench refuses the words, that is broken off, if it may
+-- be, or an allocation fails.
+abbrev pub RereadsWords : Bool → Result (Unit {0}) LoadFault → List ℕ → Contents → Contents → Type 0
+RereadsWords may_break (Ok u) bytes s t = (first_line_fault (file_lines bytes) ≡ None) × Edits (Ok u) s (bench.Words (file_words bytes)) t
+RereadsWords may_break (Err (load.Open f)) bytes s t =
+    (first_line_fault (file_lines bytes) ≡ None) × EditsOrBreaksIf may_break (Err f) s (bench.Words (file_words bytes)) t
+RereadsWords may_break (Err (load.Input serve.OutOfMemory)) bytes s t = t ≡ s
+RereadsWords may_break (Err (load.Input f)) bytes s t = (first_line_fault (file_lines bytes) ≡ Some f) × (t ≡ s)
+RereadsWords may_break (Err (load.Script f)) bytes s t = ⊥
 
 -- a line that is longer than lines may be is a word that is too long
 abbrev pub words_text : Result (Unit {0}) LoadFault → List ℕ
@@ -172,7 +174,7 @@ words_text (Err f) = edit_text (Some edit.OutOfMemory)
 
 abbrev pub IsWordsReply : List ℕ → Contents → State → List ℕ → Contents → State → Type 0
 IsWordsReply bytes s d text t e =
-    (result : Result (Unit {0}) LoadFault) × RereadsWords result bytes s t × (text ≡ words_text result) × (e ≡ d)
+    (result : Result (Unit {0}) LoadFault) × RereadsWords d.may_break result bytes s t × (text ≡ words_text result) × (e ≡ d)
 
 -- these bytes replace the whole script, and become its text
 abbrev pub ReplacesWhole : Result (Unit {0}) EditFault → List ℕ → Contents → State → Contents → State → Type 0
@@ -239,10 +241,15 @@ IsFileTokensReply bytes s d text t e = TellsTokens (nat_lt max_script (length by
 abbrev pub hello_text : List ℕ
 hello_text = with_line_feed (codes "voltizug,0.2.0,rows,2")
 
--- The reply to a command. A file that is to be written may need memory for its text. An edit that runs words may be broken off.
+-- the reply to a command of a session, and the bench after it; a limit may be broken off if this is true
+abbrev pub IsSessionReply : Bool → Command → Contents → List ℕ → Contents → Type 0
+IsSessionReply true command s text t = IsTextAnswer s command text t ⊎ IsTextBreak s command text t
+IsSessionReply false command s text t = IsTextAnswer s command text t
+
+-- The reply to a command. A file that is to be written may need memory for its text.
 abbrev pub IsWorkReply : Contents → State → WorkCommand → List ℕ → Contents → State → Type 0
 IsWorkReply s d Nothing text t e = TellsAlone [] s d text t e
-IsWorkReply s d (Session command) text t e = (IsTextAnswer s command text t ⊎ IsTextBreak s command text t) × IsLimitNoted s t d e
+IsWorkReply s d (Session command) text t e = IsSessionReply d.may_break command s text t × IsLimitNoted s t d e
 IsWorkReply s d (EditPart what block) text t e = IsPartReply what block s d text t e ⊎ TellsMemory s d text t e
 IsWorkReply s d (NoPart what bytes f) text t e = IsNoPartReply what bytes f s d text t e ⊎ TellsMemory s d text t e
 IsWorkReply s d (EditWhole bytes) text t e = IsWholeReply bytes s d text t e

@@ -12,6 +12,7 @@ use Rattle.sbl_bench.specs.declared.fault.EditFault.TheVariants as edit
 use Rattle.sbl_script.specs.Edits.{ScriptEdit}
 use Rattle.sbl_reports.specs.Block.{max_script}
 use Rattle.sbl_sessions.specs.CommandViews.{IsReply, KeepsLine}
+use Rattle.sbl_sessions.specs.Commands as session
 use Rattle.sbl_sessions.specs.Commands.{line_command}
 use Rattle.sbl_sessions.specs.Requests.{asks_block}
 use Rattle.sbl_sessions.specs.declared.replies.Reply.{Reply}
@@ -26,7 +27,7 @@ use Rattle.sbl_history.specs.Refused.{PartText}
 use Rattle.sbl_work.specs.FaultReplies.{kept_after}
 use Rattle.sbl_source_map.specs.Heads.{IsWithoutHead}
 use Rattle.sbl_reports.specs.Families.{families_in, families_text}
-use Rattle.sbl_work.specs.Replies.{IsRowsReply, IsWorkReply, TellsReport}
+use Rattle.sbl_work.specs.Replies.{IsRowsReply, IsSessionReply, IsWorkReply, TellsReport}
 use Rattle.sbl_work.specs.declared.requests.BlockRequest.{BlockRequest}
 use Rattle.sbl_work.specs.declared.requests.BlockRequest.TheVariants as blocks
 use Rattle.sbl_work.specs.declared.requests.Request.{Request}
@@ -77,6 +78,10 @@ view_request file line variants.Session = command.Session (line_command line)
 -- the reply to a command, and the bench and the desk after it
 abbrev pub IsWorkAnswer : Contents → State → WorkCommand → Reply → Contents → State → Type 0
 IsWorkAnswer s d c r t e = (text : List ℕ) × IsReply r text × IsWorkReply s d c text t e
+
+-- the same of a command of a session
+abbrev pub IsSessionAnswer : Bool → Contents → session.Command → Reply → Contents → Type 0
+IsSessionAnswer may_break s c r t = (text : List ℕ) × IsReply r text × IsSessionReply may_break c s text t
 
 -- the same over a bench and a desk
 abbrev pub Answers : KeptRuns → Desk → WorkCommand → Reply → KeptRuns → Desk → Type 0

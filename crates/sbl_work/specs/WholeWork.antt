@@ -1,6 +1,6 @@
 -- What the whole of work reads and writes: the two files are read, and then the lines of the input get their replies.
-use Rattle.std.specs.Prelude.{◌≡◌, ◌⊎◌, ℕ, List, [], Option, Some, None, Result, Ok, Err}
-use Rattle.sbl_bench.specs.Contents.{Contents, opening_contents, opening_fault, rows_now}
+use Rattle.std.specs.Prelude.{◌≡◌, ◌⊎◌, ℕ, Bool, List, [], Option, Some, None, Result, Ok, Err}
+use Rattle.sbl_bench.specs.Contents.{Contents, opening_contents, opening_fault}
 use Rattle.sbl_io.specs.Devices.{Tally}
 use Rattle.sbl_io.specs.HeldInput.{input_of}
 use Rattle.sbl_io.specs.declared.faults.ServeFault.{ServeFault}
@@ -9,7 +9,7 @@ use Rattle.sbl_io.specs.declared.lines.Lines.{Lines}
 use Rattle.sbl_sessions.specs.Session.{Ends}
 use Rattle.sbl_ast.specs.Source.{Source}
 use Rattle.sbl_script.specs.Reading.{IsScriptOf}
-use Rattle.sbl_history.specs.Desks.{State}
+use Rattle.sbl_history.specs.Desks.{State, first_desk}
 use Rattle.sbl_work.specs.Serving.{IsWork}
 
 -- A bench of a script that these bytes are with this external, and of some words. No definition says what a file has.
@@ -20,10 +20,6 @@ pub record IsOpened (external bytes : List ℕ) (s : Contents) : Type 0 where
   pub are_words : opening_fault [] words ≡ None
   pub bench : s ≡ opening_contents script words
 
--- the desk at the start: these bytes are its text, nothing can be undone or redone, the mark is set, and no text was refused
-abbrev pub first_desk : Contents → List ℕ → State
-first_desk s bytes = record { text = Some bytes; past = record { earlier = []; later = [] }; marked = rows_now s; refused = None }
-
 -- the status is 0 without a fault, and 1 with one
 abbrev pub status_of : {F : Type 0} → Result (Unit {0}) F → ℕ
 status_of (Ok u) = 0
@@ -33,31 +29,32 @@ status_of (Err f) = 1
 abbrev pub IsUntouched : Option (List ℕ) → Option (List ℕ) → Option (List ℕ) → Option (List ℕ) → Type 0
 IsUntouched input new_input held new_held = (new_input ≡ input) × (new_held ≡ held)
 
--- Work goes on from this bench and its desk at the start, and ends with this result, which has one of these reasons.
-abbrev pub WorksFrom : (Result (Unit {0}) ServeFault → Type 0) → List ℕ → List ℕ
+-- Work goes on from this bench and its desk at the start, and ends with this result, which has one of these reasons. Edits may be
+-- broken off if this is true.
+abbrev pub WorksFrom : (Result (Unit {0}) ServeFault → Type 0) → Bool → List ℕ → List ℕ
     → Option (List ℕ) → Option (List ℕ) → Option (List ℕ) → Option (List ℕ) → Contents → Result (Unit {0}) ServeFault → Type 0
-WorksFrom Reasons bytes prompt input new_input held new_held s result =
-    (t : Contents) × (e : State) × IsWork prompt input new_input held new_held s (first_desk s bytes) t e result × Reasons result
+WorksFrom Reasons may_break bytes prompt input new_input held new_held s result =
+    (t : Contents) × (e : State) × IsWork prompt input new_input held new_held s (first_desk may_break s bytes) t e result × Reasons result
 
 -- the same; or an allocation for the desk fails
-abbrev pub WorksOrMemory : (Result (Unit {0}) ServeFault → Type 0) → List ℕ → List ℕ
+abbrev pub WorksOrMemory : (Result (Unit {0}) ServeFault → Type 0) → Bool → List ℕ → List ℕ
     → Option (List ℕ) → Option (List ℕ) → Option (List ℕ) → Option (List ℕ) → Contents → Result (Unit {0}) ServeFault → Type 0
-WorksOrMemory Reasons bytes prompt input new_input held new_held s result =
-    WorksFrom Reasons bytes prompt input new_input held new_held s result
+WorksOrMemory Reasons may_break bytes prompt input new_input held new_held s result =
+    WorksFrom Reasons may_break bytes prompt input new_input held new_held s result
     ⊎ ((result ≡ Err fault.OutOfMemory) × IsUntouched input new_input held new_held)
 
 -- There is no bench or no desk: the status is 1, and nothing is read or written. Or a bench is opened, the lines of the input get
 -- their replies, and the status is that of their end.
-abbrev pub IsWholeWork : (Result (Unit {0}) ServeFault → Type 0) → List ℕ → List ℕ
+abbrev pub IsWholeWork : (Result (Unit {0}) ServeFault → Type 0) → Bool → List ℕ → List ℕ
     → Option (List ℕ) → Option (List ℕ) → Option (List ℕ) → Option (List ℕ) → ℕ → Type 0
-IsWholeWork Reasons external prompt input new_input held new_held status =
+IsWholeWork Reasons may_break external prompt input new_input held new_held status =
     ((status ≡ 1) × IsUntouched input new_input held new_held)
     ⊎ ((bytes : List ℕ) × (s : Contents) × (served : Result (Unit {0}) ServeFault) × IsOpened external bytes s
-    × WorksFrom Reasons bytes prompt input new_input held new_held s served × (status ≡ status_of served))
+    × WorksFrom Reasons may_break bytes prompt input new_input held new_held s served × (status ≡ status_of served))
 
 -- the same over lines and a writer
 abbrev pub WorksOver : {R W : Type 0} → (R → Option (List ℕ)) → (R → Tally) → (W → Option (List ℕ)) → (W → Tally)
-    → List ℕ → List ℕ → Lines R → Lines R → W → W → ℕ → Type 0
-WorksOver left reads held writes external prompt lines new_lines writer new_writer status =
-    IsWholeWork (Ends reads writes lines new_lines writer new_writer) external prompt
+    → Bool → List ℕ → List ℕ → Lines R → Lines R → W → W → ℕ → Type 0
+WorksOver left reads held writes may_break external prompt lines new_lines writer new_writer status =
+    IsWholeWork (Ends reads writes lines new_lines writer new_writer) may_break external prompt
     (input_of left lines) (input_of left new_lines) (held writer) (held new_writer) status

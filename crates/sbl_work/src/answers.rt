@@ -9,7 +9,7 @@ ghost use Rattle.sbl_work.specs.Commands as spec;
 ghost use Rattle.sbl_history.specs.Desks.{State, state_of};
 ghost use Rattle.sbl_reports.specs.Reports as reports;
 ghost use Rattle.sbl_work.specs.Replies.{ReplacesKept};
-ghost use Rattle.sbl_work.specs.ReplyViews.{IsWorkAnswer, view_file};
+ghost use Rattle.sbl_work.specs.ReplyViews.{IsSessionAnswer, IsWorkAnswer, view_file};
 
 use crate::change_replies::{figures_reply, first_changes_reply};
 use crate::fault_replies::{faults_reply, file_faults_reply};
@@ -226,6 +226,24 @@ fn echo(alloc: Global, bench: &Bench, text: &[u8]) -> Reply
     report(echo_text(alloc, text))
 }
 
+/// Makes the edit or the report of a session that a line without a block asks for, and returns the reply. `break_off` is asked only if
+/// `may_break` is true.
+fn session_reply<B: BreakOff>(
+    alloc: Global,
+    bench: &mut Bench,
+    line: &[u8],
+    may_break: bool,
+    break_off: &mut B,
+) -> Reply
+    ensures { IsSessionAnswer may_break (contents_of bench.old) (line_command line.now) result (contents_of bench.new) }
+{
+    if may_break {
+        answer_line_or_break(alloc, bench, line, break_off)
+    } else {
+        sbl_sessions::answer_line(alloc, bench, line)
+    }
+}
+
 /// Makes the edit or the report of a session that a line without a block asks for, and returns the reply. If the edit changed the
 /// limit, the desk remembers the limit before.
 fn session<B: BreakOff>(
@@ -238,7 +256,7 @@ fn session<B: BreakOff>(
     ensures { IsWorkAnswer (contents_of bench.old) (state_of desk.old) (spec.Session (line_command line.now)) result (contents_of bench.new) (state_of desk.new) }
 {
     let before = bench.limit();
-    let reply = answer_line_or_break(alloc, bench, line, break_off);
+    let reply = session_reply(alloc, bench, line, desk.may_break(), break_off);
     desk.note_limit(bench, before);
     reply
 }
@@ -249,8 +267,8 @@ fn session<B: BreakOff>(
 /// `replace`, `families`, `mark`, `tokens` or `faults` names. It is `None` if the file could not be read. For `save` and `approve` it has any bytes if the file was written, and for `append` the lines
 /// that were put at the file's end; it is `None` if the file was not written. Other commands do not look at it.
 ///
-/// If an allocation fails, the reply is `no 49 OutOfMemory`. If an edit is broken off, since `break_off` says so before one of its
-/// runs, it is `no 68 BrokenOff`.
+/// If an allocation fails, the reply is `no 49 OutOfMemory`. If an edit is broken off, since the desk allows it and `break_off` says so
+/// before one of its runs, it is `no 68 BrokenOff`.
 pub(crate) fn answer_line<B: BreakOff>(
     alloc: Global,
     desk: &mut Desk,
@@ -271,7 +289,7 @@ pub(crate) fn answer_line<B: BreakOff>(
         Request::Mark => mark(desk, bench),
         Request::MarkStems(_) => mark_stems(alloc, desk, bench, file),
         Request::Approve(_) => approve_reply(bench, file.is_some()),
-        Request::Words => words_reply(alloc, bench, file, break_off),
+        Request::Words => words_reply(alloc, desk, bench, file, break_off),
         Request::Changes => changes(alloc, desk, bench),
         Request::FirstChanges(argument) => first_changes_reply(alloc, desk, bench, argument),
         Request::Figures => figures_reply(alloc, desk, bench),

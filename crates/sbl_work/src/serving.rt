@@ -1,6 +1,7 @@
 //! Work: each request gets its reply before the next line is read.
 
 ghost use Rattle.std.specs.Io.KnownBytes.{Appends};
+ghost use Rattle.std.specs.Option.{is_some};
 ghost use Rattle.std.specs.Prelude.{◌≡◌, ◌≤◌, ℕ, List, IfErr, IfOk, None, OnOk, string_bytes, take};
 ghost use Rattle.sbl_bench.specs.KeptRuns.{contents_of};
 ghost use Rattle.sbl_io.specs.Devices.{HasStopped, WritesInTime};
@@ -160,6 +161,7 @@ fn answer_alone<F: Files + AllocGlobal>(
             folder.paths,
             &mut folder.added,
             alloc,
+            desk,
             bench,
             &mut stop,
         ),
@@ -294,21 +296,22 @@ fn write_fault<E: Sink>(alloc: Global, errors: &mut E, fault: &OpenFault)
 }
 
 /// Replies to each request of the input in turn over the bench of a script and its words, up to `quit` or the end of input. The script
-/// was read from this text.
+/// was read from this text. Edits may be broken off if `may_break` is true.
 fn serve_bench<F: Files + AllocGlobal, R: Source + Drop, W: Sink, S: Observer>(
     folder: &mut Folder<'_, F>,
     bench: &mut Bench,
     text: Vec<u8>,
+    may_break: bool,
     prompt: &[u8],
     lines: &mut Lines<R>,
     writer: &mut W,
     observer: &mut S,
 ) -> Result<(), ServeFault>
-    ensures works { fault_of lines.old ≡ None → WorksOnBench R.left R.tally W.held W.tally text.items prompt.now lines.old lines.new writer.old writer.new bench.old result }
+    ensures works { fault_of lines.old ≡ None → WorksOnBench R.left R.tally W.held W.tally may_break text.items prompt.now lines.old lines.new writer.old writer.new bench.old result }
     ensures reads_in_time { KeepsTime R.tally lines.old lines.new }
     ensures writes_in_time { WritesInTime W.tally writer.old writer.new }
 {
-    let mut desk = Desk::new(lines.alloc(), bench, text)?;
+    let mut desk = Desk::new(lines.alloc(), bench, text, may_break)?;
     serve(folder, &mut desk, bench, prompt, lines, writer, observer)
 }
 
@@ -329,7 +332,7 @@ fn work_on<F: Files + AllocGlobal, R: Source + Drop, W: Sink, S: Observer>(
     writer: &mut W,
     observer: &mut S,
 ) -> Result<(), OpenFault>
-    ensures works { fault_of lines.old ≡ None → WorksOver R.left R.tally W.held W.tally (string_bytes paths.now.external) prompt.now lines.old lines.new writer.old writer.new (status_of result) }
+    ensures works { fault_of lines.old ≡ None → WorksOver R.left R.tally W.held W.tally (is_some paths.now.stop) (string_bytes paths.now.external) prompt.now lines.old lines.new writer.old writer.new (status_of result) }
     ensures reads_in_time { KeepsTime R.tally lines.old lines.new }
     ensures writes_in_time { WritesInTime W.tally writer.old writer.new }
 {
@@ -348,6 +351,7 @@ fn work_on<F: Files + AllocGlobal, R: Source + Drop, W: Sink, S: Observer>(
         &mut folder,
         &mut bench,
         text,
+        paths.stop.is_some(),
         prompt,
         lines,
         writer,
@@ -365,6 +369,8 @@ fn work_on<F: Files + AllocGlobal, R: Source + Drop, W: Sink, S: Observer>(
 /// without a fault nothing is written there. Before each line a prompt is written if `prompts` is true. The keys are those of the
 /// hash by which words are found, as in `WordKeys::new`.
 ///
+/// Edits may be broken off if `paths` has a file for it: see `Paths::stop`.
+///
 /// If a file cannot be read or has a fault, or an allocation for it fails, no line is read and nothing is written to `writer`.
 pub fn work<F: Files + AllocGlobal, R: Source + Drop, W: Sink, E: Sink>(
     files: &F,
@@ -375,7 +381,7 @@ pub fn work<F: Files + AllocGlobal, R: Source + Drop, W: Sink, E: Sink>(
     writer: &mut W,
     errors: &mut E,
 ) -> u8
-    ensures works { fault_of lines.old ≡ None → WorksOver R.left R.tally W.held W.tally (string_bytes paths.now.external) (serving.prompt_of prompts) lines.old lines.new writer.old writer.new result }
+    ensures works { fault_of lines.old ≡ None → WorksOver R.left R.tally W.held W.tally (is_some paths.now.stop) (string_bytes paths.now.external) (serving.prompt_of prompts) lines.old lines.new writer.old writer.new result }
     ensures quiet { result ≡ 0 → E.held errors.new ≡ E.held errors.old }
     ensures status { result ≤ 1 }
     ensures reads_in_time { KeepsTime R.tally lines.old lines.new }
@@ -405,7 +411,7 @@ pub fn work_observed<F: Files + AllocGlobal, R: Source + Drop, W: Sink, E: Sink,
     errors: &mut E,
     observer: &mut S,
 ) -> u8
-    ensures works { fault_of lines.old ≡ None → WorksOver R.left R.tally W.held W.tally (string_bytes paths.now.external) (serving.prompt_of prompts) lines.old lines.new writer.old writer.new result }
+    ensures works { fault_of lines.old ≡ None → WorksOver R.left R.tally W.held W.tally (is_some paths.now.stop) (string_bytes paths.now.external) (serving.prompt_of prompts) lines.old lines.new writer.old writer.new result }
     ensures quiet { result ≡ 0 → E.held errors.new ≡ E.held errors.old }
     ensures status { result ≤ 1 }
     ensures reads_in_time { KeepsTime R.tally lines.old lines.new }

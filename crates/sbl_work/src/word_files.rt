@@ -1,7 +1,8 @@
 //! The file of words, which is read again.
-ghost use Rattle.std.specs.Prelude.{ℕ, List, Option};
-ghost use Rattle.sbl_bench.specs.KeptRuns.{contents_of};
-ghost use Rattle.sbl_history.specs.Desks.{State};
+ghost use Rattle.std.specs.Prelude.{ℕ, List, Option, map};
+ghost use Rattle.sbl_bench.specs.{Edits.Words, KeptRuns.contents_of};
+ghost use Rattle.sbl_history.specs.Desks.{state_of};
+ghost use Rattle.sbl_history.specs.MayBreak.{EditsOrBreaksIf};
 ghost use Rattle.sbl_sessions.specs.CommandViews.{IsReply};
 ghost use Rattle.sbl_work.specs.Commands as spec;
 ghost use Rattle.sbl_work.specs.Replies.{RereadsWords, words_text};
@@ -11,6 +12,7 @@ use crate::appending::Added;
 use crate::files::Paths;
 use crate::replies::{NO_FILE, NOT_TEXT, edit_reply};
 use sbl_bench::{Bench, BreakOff, EditFault};
+use sbl_history::Desk;
 use sbl_input::{LoadFault, words_in};
 use sbl_io::ServeFault;
 use sbl_saving::{ReadFault, read_file};
@@ -18,17 +20,34 @@ use sbl_sessions::Reply;
 use std::alloc::Global;
 use std::rt::Files;
 
-/// Replaces the vocabulary by the words in the lines of bytes.
+/// Replaces the vocabulary by these words. `break_off` is asked only if `may_break` is true.
+fn replace_words<B: BreakOff>(
+    bench: &mut Bench,
+    words: &[Vec<char>],
+    may_break: bool,
+    break_off: &mut B,
+) -> Result<(), EditFault>
+    ensures { EditsOrBreaksIf may_break result (contents_of bench.old) (Words (map (λ w. w.items) words.now)) (contents_of bench.new) }
+{
+    if may_break {
+        bench.replace_words_or_break(words, break_off)
+    } else {
+        bench.replace_words(words)
+    }
+}
+
+/// Replaces the vocabulary by the words in the lines of bytes. `break_off` is asked only if `may_break` is true.
 fn reread_words<B: BreakOff>(
     alloc: Global,
     bench: &mut Bench,
     bytes: &[u8],
+    may_break: bool,
     break_off: &mut B,
 ) -> Result<(), LoadFault>
-    ensures { RereadsWords result bytes.now (contents_of bench.old) (contents_of bench.new) }
+    ensures { RereadsWords may_break result bytes.now (contents_of bench.old) (contents_of bench.new) }
 {
     let words = words_in(alloc, bytes)?;
-    match bench.replace_words_or_break(&words, break_off) {
+    match replace_words(bench, &words, may_break, break_off) {
         Ok(()) => Ok(()),
         Err(fault) => Err(LoadFault::Open(fault)),
     }
@@ -50,14 +69,17 @@ fn reread_reply(answer: Result<(), LoadFault>) -> Reply
 /// Returns the reply to `words`, for the bytes of the file of words; none if it cannot be read.
 pub(crate) fn words_reply<B: BreakOff>(
     alloc: Global,
+    desk: &Desk,
     bench: &mut Bench,
     file: Option<&[u8]>,
     break_off: &mut B,
 ) -> Reply
-    ensures { (d : State) → IsWorkAnswer (contents_of bench.old) d (spec.with_file spec.Words (view_file file.entry)) result (contents_of bench.new) d }
+    ensures { IsWorkAnswer (contents_of bench.old) (state_of desk.now) (spec.with_file spec.Words (view_file file.entry)) result (contents_of bench.new) (state_of desk.now) }
 {
     match file {
-        Some(bytes) => reread_reply(reread_words(alloc, bench, bytes, break_off)),
+        Some(bytes) => {
+            reread_reply(reread_words(alloc, bench, bytes, desk.may_break(), break_off))
+        },
         None => Reply::Fixed(NO_FILE),
     }
 }
@@ -68,23 +90,24 @@ pub(crate) fn words_by_file<F: Files + AllocGlobal, B: BreakOff>(
     paths: &Paths,
     added: &mut Added,
     alloc: Global,
+    desk: &Desk,
     bench: &mut Bench,
     break_off: &mut B,
 ) -> Reply
-    ensures { (d : State) → (file : Option (List ℕ)) × IsWorkAnswer (contents_of bench.old) d (spec.with_file spec.Words file) result (contents_of bench.new) d }
+    ensures { (file : Option (List ℕ)) × IsWorkAnswer (contents_of bench.old) (state_of desk.now) (spec.with_file spec.Words file) result (contents_of bench.new) (state_of desk.now) }
 {
     let Some(path) = &paths.words else {
-        return words_reply(alloc, bench, None, break_off);
+        return words_reply(alloc, desk, bench, None, break_off);
     };
     match read_file(files, path.as_str()) {
         Ok(bytes) => {
-            let answer = reread_words(alloc, bench, &bytes, break_off);
+            let answer = reread_words(alloc, bench, &bytes, desk.may_break(), break_off);
             if answer.is_ok() {
                 added.note_read(bench.len());
             }
             reread_reply(answer)
         }
-        Err(ReadFault::Unreadable) => words_reply(alloc, bench, None, break_off),
+        Err(ReadFault::Unreadable) => words_reply(alloc, desk, bench, None, break_off),
         Err(ReadFault::OutOfMemory) => edit_reply(Err(EditFault::OutOfMemory)),
     }
 }

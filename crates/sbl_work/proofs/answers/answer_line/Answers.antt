@@ -118,7 +118,7 @@ returns-in-Approve g c =
 pub returns-in-Words : goal.returns-in-Words
 returns-in-Words g c =
     let d = state_of c.args.desk.now in
-    same_command (contents_of c.args.bench.now) (contents_of c.words_reply.new.bench) d d (with_file Words (view_file c.args.file)) (alone_command (view_file c.args.file) c.args.line.now) c.words_reply.result (c.in-Words.ensures (view_file c.args.file)) (c.words_reply.ensures d)
+    same_command (contents_of c.args.bench.now) (contents_of c.words_reply.new.bench) d d (with_file Words (view_file c.args.file)) (alone_command (view_file c.args.file) c.args.line.now) c.words_reply.result (c.in-Words.ensures (view_file c.args.file)) c.words_reply.ensures
 
 pub returns-in-Text : goal.returns-in-Text
 returns-in-Text g c =

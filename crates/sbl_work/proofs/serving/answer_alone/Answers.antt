@@ -42,7 +42,7 @@ returns-in-Approve g c =
 pub returns-in-Words : goal.returns-in-Words
 returns-in-Words g c =
     let d = state_of c.args.desk.now in
-    let it = c.words_by_file.ensures d in
+    let it = c.words_by_file.ensures in
     (it.0, same_command (contents_of c.args.bench.now) (contents_of c.words_by_file.new.bench) d d (with_file Words it.0) (alone_command it.0 c.args.line.now) c.words_by_file.result (c.in-Words.ensures it.0) it.1)
 
 pub returns-in-TokensOf : goal.returns-in-TokensOf

@@ -11,5 +11,5 @@ returns-clause-replaces g c =
       view_text c.text_in_force-kept.result,
       c.text_in_force-kept.ensures c.args.bench.now.script.external
           (subst (λ e. IfSome c.in_ok-found.found (λ f. Reads e f.text.items (string_bytes f.canonical))) same c.in_ok-found.ensures),
-      (c.in_ok-replace_or_break.ensures.edits, record { text_is = c.note.ensures.text; marked = c.note.ensures.marked; refused = c.note.ensures.refused; past = search rules }),
+      (c.in_ok-replace_part.ensures.edits, record { text_is = c.note.ensures.text; rest = c.note.ensures.rest; past = search rules }),
     )

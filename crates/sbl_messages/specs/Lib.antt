@@ -1,0 +1,2 @@
+-- definitions that public contracts depend on
+pub mod InputNames
