@@ -9,3 +9,4 @@ pub mod Families
 pub mod Filters
 pub mod Uses
 pub mod Lists
+pub mod WorkBreaks

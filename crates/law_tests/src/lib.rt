@@ -32,3 +32,4 @@ pub mod snowbench_whole_check;
 pub mod tables_laws;
 pub mod text_laws;
 pub mod why_searches;
+pub mod work_break_laws;

@@ -7,3 +7,4 @@ pub mod StemFileFacts
 pub mod TextReplyFacts
 pub mod WordFileFacts
 pub mod FaultFacts
+pub mod BreakFacts
