@@ -14,20 +14,20 @@ use Rattle.sbl_work.specs.Replies.{IsWorkReply}
 use Rattle.sbl_work.specs.Serving.{AreReplies, Choice}
 
 -- no request changes whether edits may be broken off
-abbrev pub RequestsKeepLeave : Type 0
-RequestsKeepLeave =
+abbrev pub LeaveStays : Type 0
+LeaveStays =
     (choices : List Choice) (s : Contents) (d : State) (requests : List Request) (replies : List (List ℕ)) (t : Contents) (e : State)
     → AreReplies choices s d requests replies t e → e.may_break ≡ d.may_break
 
 -- If edits may not be broken off, a whole script is replaced as the bench replaces it.
-abbrev pub WholeScriptsEnd : Type 0
-WholeScriptsEnd =
+abbrev pub WholesAreEdited : Type 0
+WholesAreEdited =
     (bytes : List ℕ) (s : Contents) (d : State) (text : List ℕ) (t : Contents) (e : State) → d.may_break ≡ false
     → IsWorkReply s d (EditWhole bytes) text t e
     → (result : Result (Unit {0}) EditFault) × Edits result s (Whole bytes) t × (text ≡ edit_text (fault_in result))
 
 -- If edits may not be broken off, a command of a session has the session's reply.
-abbrev pub SessionCommandsEnd : Type 0
-SessionCommandsEnd =
+abbrev pub SessionsAnswer : Type 0
+SessionsAnswer =
     (command : Command) (s : Contents) (d : State) (text : List ℕ) (t : Contents) (e : State) → d.may_break ≡ false
     → IsWorkReply s d (Session command) text t e → IsTextAnswer s command text t
