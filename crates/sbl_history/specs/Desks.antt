@@ -61,12 +61,22 @@ view_text text = option_map (λ t. t.items) text
 
 abbrev pub state_of : Desk → State
 state_of d = record {
-  text = view_text d.text; past = past_of d.history; marked = map view_marked d.marked.items; refused = view_last d.refused; may_break = d.may_break }
+  text = view_text d.text;
+  past = past_of d.history;
+  marked = map view_marked d.marked.items;
+  refused = view_last d.refused;
+  may_break = d.may_break;
+}
 
 -- the desk at the start: these bytes are its text, nothing can be undone or redone, the mark is set, and no text was refused
 abbrev pub first_desk : Bool → Contents → List ℕ → State
 first_desk may_break s bytes = record {
-  text = Some bytes; past = record { earlier = []; later = [] }; marked = rows_now s; refused = None; may_break = may_break }
+  text = Some bytes;
+  past = record { earlier = []; later = [] };
+  marked = rows_now s;
+  refused = None;
+  may_break = may_break;
+}
 
 -- nothing but the text and the edits that can be undone and redone is changed
 abbrev pub KeepsRest : State → State → Type 0

@@ -15,8 +15,8 @@ ghost use Rattle.sbl_history.specs.Refused.{view_refused};
 ghost use Rattle.sbl_history.specs.{Editing.NotesLimit, Editing.Remembers, Editing.Replaces, Editing.ReplacesPart, Splicing.IsTextIn, Splicing.Reads};
 ghost use Rattle.sbl_script.specs.Parts.{view_part};
 
-use crate::history::{HistoryFault, text_of, turn};
 use crate::breaking::{replace_part, replace_script};
+use crate::history::{HistoryFault, text_of, turn};
 use crate::kinds::HeldKind;
 use crate::listing::history_text;
 use crate::marks::{MarkedRow, copy_rows, rows_of_stems, views_of};

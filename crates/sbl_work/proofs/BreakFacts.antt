@@ -43,26 +43,26 @@ Keeps d e = e.may_break ≡ d.may_break
 same : (d e : State) → e ≡ d → Keeps d e
 same d e is = ap (λ (x : State). x.may_break) is
 
-kept : (result : Result (Unit {0}) EditFault) (refused : ScriptFault → RefusedText) (m : State) → Keeps m (kept_after result refused m)
-kept (Ok u) refused m = refl
-kept (Err (edit.Script f)) refused m = refl
-kept (Err edit.Present) refused m = refl
-kept (Err edit.Absent) refused m = refl
-kept (Err edit.EmptyWord) refused m = refl
-kept (Err edit.WordTooLong) refused m = refl
-kept (Err edit.Full) refused m = refl
-kept (Err edit.NoRoutine) refused m = refl
-kept (Err edit.NoAmong) refused m = refl
-kept (Err edit.AmongCount) refused m = refl
-kept (Err edit.OutOfMemory) refused m = refl
-kept (Err edit.MeterFull) refused m = refl
-kept (Err edit.BadLimit) refused m = refl
-kept (Err edit.NoGrouping) refused m = refl
-kept (Err edit.BrokenOff) refused m = refl
+kept_keeps : (result : Result (Unit {0}) EditFault) (refused : ScriptFault → RefusedText) (m : State) → Keeps m (kept_after result refused m)
+kept_keeps (Ok u) refused m = refl
+kept_keeps (Err (edit.Script f)) refused m = refl
+kept_keeps (Err edit.Present) refused m = refl
+kept_keeps (Err edit.Absent) refused m = refl
+kept_keeps (Err edit.EmptyWord) refused m = refl
+kept_keeps (Err edit.WordTooLong) refused m = refl
+kept_keeps (Err edit.Full) refused m = refl
+kept_keeps (Err edit.NoRoutine) refused m = refl
+kept_keeps (Err edit.NoAmong) refused m = refl
+kept_keeps (Err edit.AmongCount) refused m = refl
+kept_keeps (Err edit.OutOfMemory) refused m = refl
+kept_keeps (Err edit.MeterFull) refused m = refl
+kept_keeps (Err edit.BadLimit) refused m = refl
+kept_keeps (Err edit.NoGrouping) refused m = refl
+kept_keeps (Err edit.BrokenOff) refused m = refl
 
-turned : (result : Result (Unit {0}) HistoryFault) (m : State) → Keeps m (kept_after_turn result m)
-turned (Ok u) m = refl
-turned (Err f) m = refl
+turn_keeps : (result : Result (Unit {0}) HistoryFault) (m : State) → Keeps m (kept_after_turn result m)
+turn_keeps (Ok u) m = refl
+turn_keeps (Err f) m = refl
 
 module _ (s : Contents) (d : State) (text : List ℕ) (t : Contents) (e : State) where
   report : (expected : List ℕ) → TellsReport expected s d text t e → Keeps d e
@@ -80,13 +80,13 @@ module _ (s : Contents) (d : State) (text : List ℕ) (t : Contents) (e : State)
   marks None bytes h = sets (rows_with s.words (stems_in bytes)) h
   marks (Some refusal) bytes h = report refusal h
 
-  replaced : (result : Result (Unit {0}) EditFault) (kind : EditKind) (what : Edit) (after : Option (List ℕ)) (m : State) → Replaces result kind what after s d t m → Keeps d m
-  replaced (Ok u) kind what after m (edits, noted) = noted.rest.2
-  replaced (Err f) kind what after m (edits, desk) = same d m desk
+  replacing_keeps : (result : Result (Unit {0}) EditFault) (kind : EditKind) (what : Edit) (after : Option (List ℕ)) (m : State) → Replaces result kind what after s d t m → Keeps d m
+  replacing_keeps (Ok u) kind what after m (edits, noted) = noted.rest.2
+  replacing_keeps (Err f) kind what after m (edits, desk) = same d m desk
 
-  replaced_part : (result : Result (Unit {0}) EditFault) (what : ScriptEdit) (block : List ℕ) (m : State) → ReplacesPart result what block s d t m → Keeps d m
-  replaced_part result what block m (inl (after, is, replaces)) = replaced result (OfPart what) (Replace what block) after m replaces
-  replaced_part result what block m (inr (refused, bench, desk)) = same d m desk
+  part_replacing_keeps : (result : Result (Unit {0}) EditFault) (what : ScriptEdit) (block : List ℕ) (m : State) → ReplacesPart result what block s d t m → Keeps d m
+  part_replacing_keeps result what block m (inl (after, is, replaces)) = replacing_keeps result (OfPart what) (Replace what block) after m replaces
+  part_replacing_keeps result what block m (inr (refused, bench, desk)) = same d m desk
 
   definition : (o : Option (List ℕ)) → IsDefinitionReply o s d text t e → Keeps d e
   definition None (shown, bench, desk) = same d e desk
@@ -119,62 +119,62 @@ module _ (s : Contents) (d : State) (text : List ℕ) (t : Contents) (e : State)
 
   whole : (bytes : List ℕ) → IsWholeReply bytes s d text t e → Keeps d e
   whole bytes (result, (m, replaces, desk), shown) =
-      ap (λ (x : State). x.may_break) desk ∙ kept result (refused_whole bytes) m ∙ replaced result OfScript (Whole bytes) (Some bytes) m replaces
+      ap (λ (x : State). x.may_break) desk ∙ kept_keeps result (refused_whole bytes) m ∙ replacing_keeps result OfScript (Whole bytes) (Some bytes) m replaces
 
   part : (what : ScriptEdit) (block : List ℕ) → IsPartReply what block s d text t e → Keeps d e
   part what block (rest, result, m, head, replaces, desk, shown) =
-      ap (λ (x : State). x.may_break) desk ∙ kept result (refused_part what block) m ∙ replaced_part result what rest m replaces
+      ap (λ (x : State). x.may_break) desk ∙ kept_keeps result (refused_part what block) m ∙ part_replacing_keeps result what rest m replaces
 
   undo : IsTurnReply Undoes undo_text s d text t e → Keeps d e
-  undo (result, m, (turns, rest), desk, shown) = ap (λ (x : State). x.may_break) desk ∙ turned result m ∙ rest.2
+  undo (result, m, (turns, rest), desk, shown) = ap (λ (x : State). x.may_break) desk ∙ turn_keeps result m ∙ rest.2
 
   redo : IsTurnReply Redoes redo_text s d text t e → Keeps d e
-  redo (result, m, (turns, rest), desk, shown) = ap (λ (x : State). x.may_break) desk ∙ turned result m ∙ rest.2
+  redo (result, m, (turns, rest), desk, shown) = ap (λ (x : State). x.may_break) desk ∙ turn_keeps result m ∙ rest.2
 
   words : (bytes : List ℕ) → IsWordsReply bytes s d text t e → Keeps d e
   words bytes (result, rereads, shown, desk) = same d e desk
 
 -- a request keeps it
-replied : (c : WorkCommand) (s : Contents) (d : State) (text : List ℕ) (t : Contents) (e : State) → IsWorkReply s d c text t e → Keeps d e
-replied command.Nothing s d text t e (shown, bench, desk) = same d e desk
-replied (command.Session x) s d text t e (is, noted) = limit s d text t e noted
-replied (command.EditPart what block) s d text t e (inl h) = part s d text t e what block h
-replied (command.EditPart what block) s d text t e (inr h) = memory s d text t e h
-replied (command.NoPart what bytes f) s d text t e (inl (shown, bench, desk)) = ap (λ (x : State). x.may_break) desk
-replied (command.NoPart what bytes f) s d text t e (inr h) = memory s d text t e h
-replied (command.EditWhole x) s d text t e h = whole s d text t e x h
-replied command.Undo s d text t e h = undo s d text t e h
-replied command.Redo s d text t e h = redo s d text t e h
-replied command.History s d text t e h = report s d text t e (history_text d.past) h
-replied command.Mark s d text t e h = sets s d text t e (rows_now s) h
-replied (command.MarkStems x) s d text t e h = marks s d text t e (mark_refusal s x) x h
-replied (command.Approve x) s d text t e h = report s d text t e (approve_text s x) h
-replied (command.Words x) s d text t e h = words s d text t e x h
-replied command.Changes s d text t e h = report s d text t e (changes_text d.marked s) h
-replied (command.FirstChanges x) s d text t e h = report s d text t e (first_changes_text x d.marked s) h
-replied command.Figures s d text t e h = report s d text t e (change_figures_text d.marked s) h
-replied command.Stats s d text t e h = report s d text t e (stats_text s) h
-replied command.Unused s d text t e h = report s d text t e (unused_text s.setting s.words) h
-replied (command.Largest x) s d text t e h = most s d text t e x h
-replied (command.Families x) s d text t e h = report s d text t e (families_reply_text s x) h
-replied (command.Why x) s d text t e h = report s d text t e (why_reply_text s x) h
-replied (command.Integers x) s d text t e h = report s d text t e (integers_reply_text s x) h
-replied (command.Uses x) s d text t e h = report s d text t e (uses_reply_text s x) h
-replied command.Counts s d text t e h = report s d text t e (counts_text s.setting s.words) h
-replied (command.Find x) s d text t e h = report s d text t e (found_text x s) h
-replied (command.Stem x) s d text t e h = report s d text t e (stem_reply_text s x) h
-replied (command.Show x) s d text t e h = definition s d text t e (definition_text s.setting.script x) h
-replied command.Saved s d text t e h = report s d text t e (edit_text None) h
-replied command.NoWords s d text t e (shown, bench, desk) = same d e desk
-replied command.NoFile s d text t e (shown, bench, desk) = same d e desk
-replied (command.Echo x) s d text t e h = report s d text t e (with_line_feed x) h
-replied command.Text s d text t e h = report s d text t e (text_in s d.text) h
-replied command.Places s d text t e h = rows s d text t e IsPlacesText (is_utf8 (text_in s d.text)) (text_in s d.text) h
-replied command.Tokens s d text t e h = rows s d text t e IsTokensText (is_utf8 (text_in s d.text)) (text_in s d.text) h
-replied (command.TokensOf x) s d text t e h = tokens s d text t e (nat_lt max_script (length x)) x h
-replied command.Faults s d text t e h = faults s d text t e d.refused h
-replied (command.FaultsOf x) s d text t e h = tells_faults s d text t e (IsFaultsText x s.setting.script.external) h
-replied command.Hello s d text t e (shown, bench, desk) = same d e desk
+reply_keeps : (c : WorkCommand) (s : Contents) (d : State) (text : List ℕ) (t : Contents) (e : State) → IsWorkReply s d c text t e → Keeps d e
+reply_keeps command.Nothing s d text t e (shown, bench, desk) = same d e desk
+reply_keeps (command.Session x) s d text t e (is, noted) = limit s d text t e noted
+reply_keeps (command.EditPart what block) s d text t e (inl h) = part s d text t e what block h
+reply_keeps (command.EditPart what block) s d text t e (inr h) = memory s d text t e h
+reply_keeps (command.NoPart what bytes f) s d text t e (inl (shown, bench, desk)) = ap (λ (x : State). x.may_break) desk
+reply_keeps (command.NoPart what bytes f) s d text t e (inr h) = memory s d text t e h
+reply_keeps (command.EditWhole x) s d text t e h = whole s d text t e x h
+reply_keeps command.Undo s d text t e h = undo s d text t e h
+reply_keeps command.Redo s d text t e h = redo s d text t e h
+reply_keeps command.History s d text t e h = report s d text t e (history_text d.past) h
+reply_keeps command.Mark s d text t e h = sets s d text t e (rows_now s) h
+reply_keeps (command.MarkStems x) s d text t e h = marks s d text t e (mark_refusal s x) x h
+reply_keeps (command.Approve x) s d text t e h = report s d text t e (approve_text s x) h
+reply_keeps (command.Words x) s d text t e h = words s d text t e x h
+reply_keeps command.Changes s d text t e h = report s d text t e (changes_text d.marked s) h
+reply_keeps (command.FirstChanges x) s d text t e h = report s d text t e (first_changes_text x d.marked s) h
+reply_keeps command.Figures s d text t e h = report s d text t e (change_figures_text d.marked s) h
+reply_keeps command.Stats s d text t e h = report s d text t e (stats_text s) h
+reply_keeps command.Unused s d text t e h = report s d text t e (unused_text s.setting s.words) h
+reply_keeps (command.Largest x) s d text t e h = most s d text t e x h
+reply_keeps (command.Families x) s d text t e h = report s d text t e (families_reply_text s x) h
+reply_keeps (command.Why x) s d text t e h = report s d text t e (why_reply_text s x) h
+reply_keeps (command.Integers x) s d text t e h = report s d text t e (integers_reply_text s x) h
+reply_keeps (command.Uses x) s d text t e h = report s d text t e (uses_reply_text s x) h
+reply_keeps command.Counts s d text t e h = report s d text t e (counts_text s.setting s.words) h
+reply_keeps (command.Find x) s d text t e h = report s d text t e (found_text x s) h
+reply_keeps (command.Stem x) s d text t e h = report s d text t e (stem_reply_text s x) h
+reply_keeps (command.Show x) s d text t e h = definition s d text t e (definition_text s.setting.script x) h
+reply_keeps command.Saved s d text t e h = report s d text t e (edit_text None) h
+reply_keeps command.NoWords s d text t e (shown, bench, desk) = same d e desk
+reply_keeps command.NoFile s d text t e (shown, bench, desk) = same d e desk
+reply_keeps (command.Echo x) s d text t e h = report s d text t e (with_line_feed x) h
+reply_keeps command.Text s d text t e h = report s d text t e (text_in s d.text) h
+reply_keeps command.Places s d text t e h = rows s d text t e IsPlacesText (is_utf8 (text_in s d.text)) (text_in s d.text) h
+reply_keeps command.Tokens s d text t e h = rows s d text t e IsTokensText (is_utf8 (text_in s d.text)) (text_in s d.text) h
+reply_keeps (command.TokensOf x) s d text t e h = tokens s d text t e (nat_lt max_script (length x)) x h
+reply_keeps command.Faults s d text t e h = faults s d text t e d.refused h
+reply_keeps (command.FaultsOf x) s d text t e h = tells_faults s d text t e (IsFaultsText x s.setting.script.external) h
+reply_keeps command.Hello s d text t e (shown, bench, desk) = same d e desk
 
 -- ---- the laws
 
@@ -182,19 +182,19 @@ pub keeps_leave : RequestsKeepLeave
 keeps_leave [] s d [] [] t e (bench, desk) = same d e desk
 keeps_leave (choice ∷ choices) s d (request ∷ requests) (reply ∷ replies) t e (next, is, rest) =
     keeps_leave choices next choice.desk requests replies t e rest
-    ∙ replied (by_work_block choice.file request.line request.block) s d reply next choice.desk is
+    ∙ reply_keeps (by_work_block choice.file request.line request.block) s d reply next choice.desk is
 
 edits_end : (m : Bool) (result : Result (Unit {0}) EditFault) (what : Edit) (s t : Contents) → m ≡ false → EditsOrBreaksIf m result s what t → Edits result s what t
 edits_end m (Ok u) what s t is edits = edits
 edits_end m (Err f) what s t is edits = subst (λ (x : Bool). EditsOrBreaksIf x (Err f) s what t) is edits
 
-replaced_end : (result : Result (Unit {0}) EditFault) (kind : EditKind) (what : Edit) (after : Option (List ℕ)) (s : Contents) (d : State) (t : Contents) (m : State) → d.may_break ≡ false
+replacing_ends : (result : Result (Unit {0}) EditFault) (kind : EditKind) (what : Edit) (after : Option (List ℕ)) (s : Contents) (d : State) (t : Contents) (m : State) → d.may_break ≡ false
     → Replaces result kind what after s d t m → Edits result s what t
-replaced_end (Ok u) kind what after s d t m is (edits, noted) = edits
-replaced_end (Err f) kind what after s d t m is (edits, desk) = edits_end d.may_break (Err f) what s t is edits
+replacing_ends (Ok u) kind what after s d t m is (edits, noted) = edits
+replacing_ends (Err f) kind what after s d t m is (edits, desk) = edits_end d.may_break (Err f) what s t is edits
 
 pub whole_scripts_end : WholeScriptsEnd
-whole_scripts_end bytes s d text t e is (result, (m, replaces, desk), shown) = (result, replaced_end result OfScript (Whole bytes) (Some bytes) s d t m is replaces, shown)
+whole_scripts_end bytes s d text t e is (result, (m, replaces, desk), shown) = (result, replacing_ends result OfScript (Whole bytes) (Some bytes) s d t m is replaces, shown)
 
 pub session_commands_end : SessionCommandsEnd
 session_commands_end k s d text t e is (reply, noted) = subst (λ (m : Bool). IsSessionReply m k s text t) is reply

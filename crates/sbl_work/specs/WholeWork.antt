@@ -1,5 +1,6 @@
 -- What the whole of work reads and writes: the two files are read, and then the lines of the input get their replies.
-use Rattle.std.specs.Prelude.{◌≡◌, ◌⊎◌, ℕ, Bool, List, [], Option, Some, None, Result, Ok, Err}
+use Rattle.std.specs.Prelude.{◌≡◌, ◌⊎◌, ℕ, Bool, List, [], Option, Some, None, Result, Ok, Err, string_bytes}
+use Rattle.std.specs.Option.{is_some}
 use Rattle.sbl_bench.specs.Contents.{Contents, opening_contents, opening_fault}
 use Rattle.sbl_io.specs.Devices.{Tally}
 use Rattle.sbl_io.specs.HeldInput.{input_of}
@@ -11,6 +12,7 @@ use Rattle.sbl_ast.specs.Source.{Source}
 use Rattle.sbl_script.specs.Reading.{IsScriptOf}
 use Rattle.sbl_history.specs.Desks.{State, first_desk}
 use Rattle.sbl_work.specs.Serving.{IsWork}
+use Rattle.sbl_work.specs.declared.files.Paths.{Paths}
 
 -- A bench of a script that these bytes are with this external, and of some words. No definition says what a file has.
 pub record IsOpened (external bytes : List ℕ) (s : Contents) : Type 0 where
@@ -52,9 +54,9 @@ IsWholeWork Reasons may_break external prompt input new_input held new_held stat
     ⊎ ((bytes : List ℕ) × (s : Contents) × (served : Result (Unit {0}) ServeFault) × IsOpened external bytes s
     × WorksFrom Reasons may_break bytes prompt input new_input held new_held s served × (status ≡ status_of served))
 
--- the same over lines and a writer
+-- the same over lines and a writer, with the external and the file of `--stop` that these name
 abbrev pub WorksOver : {R W : Type 0} → (R → Option (List ℕ)) → (R → Tally) → (W → Option (List ℕ)) → (W → Tally)
-    → Bool → List ℕ → List ℕ → Lines R → Lines R → W → W → ℕ → Type 0
-WorksOver left reads held writes may_break external prompt lines new_lines writer new_writer status =
-    IsWholeWork (Ends reads writes lines new_lines writer new_writer) may_break external prompt
+    → Paths → List ℕ → Lines R → Lines R → W → W → ℕ → Type 0
+WorksOver left reads held writes paths prompt lines new_lines writer new_writer status =
+    IsWholeWork (Ends reads writes lines new_lines writer new_writer) (is_some paths.stop) (string_bytes paths.external) prompt
     (input_of left lines) (input_of left new_lines) (held writer) (held new_writer) status

@@ -1,8 +1,7 @@
 //! Work: each request gets its reply before the next line is read.
 
 ghost use Rattle.std.specs.Io.KnownBytes.{Appends};
-ghost use Rattle.std.specs.Option.{is_some};
-ghost use Rattle.std.specs.Prelude.{◌≡◌, ◌≤◌, ℕ, List, IfErr, IfOk, None, OnOk, string_bytes, take};
+ghost use Rattle.std.specs.Prelude.{◌≡◌, ◌≤◌, ℕ, List, IfErr, IfOk, None, OnOk, take};
 ghost use Rattle.sbl_bench.specs.KeptRuns.{contents_of};
 ghost use Rattle.sbl_io.specs.Devices.{HasStopped, WritesInTime};
 ghost use Rattle.sbl_io.specs.HeldInput.{KeepsTime, Reading, fault_of};
@@ -332,7 +331,7 @@ fn work_on<F: Files + AllocGlobal, R: Source + Drop, W: Sink, S: Observer>(
     writer: &mut W,
     observer: &mut S,
 ) -> Result<(), OpenFault>
-    ensures works { fault_of lines.old ≡ None → WorksOver R.left R.tally W.held W.tally (is_some paths.now.stop) (string_bytes paths.now.external) prompt.now lines.old lines.new writer.old writer.new (status_of result) }
+    ensures works { fault_of lines.old ≡ None → WorksOver R.left R.tally W.held W.tally paths.now prompt.now lines.old lines.new writer.old writer.new (status_of result) }
     ensures reads_in_time { KeepsTime R.tally lines.old lines.new }
     ensures writes_in_time { WritesInTime W.tally writer.old writer.new }
 {
@@ -381,7 +380,7 @@ pub fn work<F: Files + AllocGlobal, R: Source + Drop, W: Sink, E: Sink>(
     writer: &mut W,
     errors: &mut E,
 ) -> u8
-    ensures works { fault_of lines.old ≡ None → WorksOver R.left R.tally W.held W.tally (is_some paths.now.stop) (string_bytes paths.now.external) (serving.prompt_of prompts) lines.old lines.new writer.old writer.new result }
+    ensures works { fault_of lines.old ≡ None → WorksOver R.left R.tally W.held W.tally paths.now (serving.prompt_of prompts) lines.old lines.new writer.old writer.new result }
     ensures quiet { result ≡ 0 → E.held errors.new ≡ E.held errors.old }
     ensures status { result ≤ 1 }
     ensures reads_in_time { KeepsTime R.tally lines.old lines.new }
@@ -411,7 +410,7 @@ pub fn work_observed<F: Files + AllocGlobal, R: Source + Drop, W: Sink, E: Sink,
     errors: &mut E,
     observer: &mut S,
 ) -> u8
-    ensures works { fault_of lines.old ≡ None → WorksOver R.left R.tally W.held W.tally (is_some paths.now.stop) (string_bytes paths.now.external) (serving.prompt_of prompts) lines.old lines.new writer.old writer.new result }
+    ensures works { fault_of lines.old ≡ None → WorksOver R.left R.tally W.held W.tally paths.now (serving.prompt_of prompts) lines.old lines.new writer.old writer.new result }
     ensures quiet { result ≡ 0 → E.held errors.new ≡ E.held errors.old }
     ensures status { result ≤ 1 }
     ensures reads_in_time { KeepsTime R.tally lines.old lines.new }
