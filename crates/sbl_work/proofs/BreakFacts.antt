@@ -37,7 +37,7 @@ use Rattle.sbl_work.specs.Replies.{SetsMark, TellsFaults, TellsMemory, TellsRepo
 use Rattle.sbl_work.specs.Replies.{redo_text, stem_reply_text, undo_text, uses_reply_text, why_reply_text}
 
 -- whether edits may be broken off is as before
-Keeps : State → State → Type 0
+abbrev Keeps : State → State → Type 0
 Keeps d e = e.may_break ≡ d.may_break
 
 same : (d e : State) → e ≡ d → Keeps d e
