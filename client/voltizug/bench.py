@@ -78,19 +78,6 @@ class Stage:
         known.note = ", as it was read" if self.script in self.saved() else ""
         return known
 
-    def file_tokens(self, is_begun: bool) -> List[rows.Token]:
-        """Returns the tokens of SCRIPT, whose commands may have faults. If the program is not begun, another one is asked."""
-        if is_begun:
-            return rows.tokens(self.known("tokens " + self.script) or [])
-        least = Memory(b"externals ( stem ) define stem as true\n")
-        other = Program([self.program.command[0], "work", "--text"], least.path, None, "", self.program.bell)
-        try:
-            other.begin([], least.path)
-            reply = other.ask(["tokens " + self.script])
-        finally:
-            other.stop()
-        return rows.tokens(reply.lines) if reply.is_done else []
-
     def outcomes(self) -> List[rows.Outcome]:
         return rows.outcomes(self.known("stems") or [])
 
@@ -167,6 +154,19 @@ class Bench(Stage):
         if reply.is_done:
             self.note(lines[0], reply)
         return reply
+
+    def tokens_of(self, path: str) -> List[rows.Token]:
+        """Returns the tokens of a file, whose commands may have faults. If the program is not begun, another one is asked."""
+        if not self.is_waiting:
+            return rows.tokens(self.known("tokens " + path) or [])
+        least = Memory(b"externals ( stem )\ndefine stem as true\n")
+        other = Program([self.program.command[0], "work", "--text"], least.path, None, "", self.program.bell)
+        try:
+            other.begin([], least.path)
+            reply = other.ask(["tokens " + path])
+        finally:
+            other.stop()
+        return rows.tokens(reply.lines) if reply.is_done else []
 
     def note(self, line: str, reply: Reply) -> None:
         """Notes an accepted command that is no edit."""
