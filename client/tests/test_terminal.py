@@ -14,9 +14,9 @@ AUTHOR, WORDS = example("author.sbl"), example("author.words")
 
 
 class Sessions(Case):
-    def begin(self, script=AUTHOR, words=WORDS, **options):
+    def begin(self, script=AUTHOR, words=WORDS, watches=False, **options):
         self.folder = self.room(my_sbl=script, my_words=words)
-        terminal = self.terminal(self.folder, **options)
+        terminal = self.terminal(self.folder, *["--watch", "my.sbl", "my.words"] * watches, **options)
         self.start = terminal.got()
         return terminal
 
@@ -145,6 +145,33 @@ class Sessions(Case):
         terminal = self.begin()
         os.remove(os.path.join(self.folder, "my.sbl"))
         self.assertEqual(terminal.enter(""), "my.sbl cannot be read: there is no such file. The script that was read stays: save FILE keeps it.")
+
+    def test_a_script_that_is_gone_is_saved_anew_if_that_is_asked_for_again(self):
+        terminal, script = self.begin(), os.path.join(self.folder, "my.sbl")
+        terminal.enter("routine plural", "true", ".", "undo")
+        os.remove(script)
+        said = "my.sbl is not there any more (deleted or renamed). Nothing was written: save my.sbl again writes it anew."
+        self.assertEqual(terminal.enter("save my.sbl"), said)
+        self.assertEqual(terminal.enter("stats", "save ./my.sbl"), said.replace("my.sbl", "./my.sbl"))
+        self.assertFalse(os.path.exists(script))
+        self.assertEqual(terminal.enter("save ./my.sbl"), "saved in ./my.sbl")
+        with open(script) as file:
+            self.assertEqual(file.read(), AUTHOR)
+        # (undo and redo are as they were, and the file is the one that is read and saved)
+        self.assertIn("made again: routine plural; 3 words, 3 split", terminal.enter("redo"))
+        self.assertEqual(terminal.enter("save my.sbl"), "saved in my.sbl")
+        with open(script) as file:
+            self.assertIn("plural as true", file.read())
+        self.assertEqual(terminal.enter(""), "my.sbl has not changed since it was read.\n3 words, 3 split since the mark (this edit changed none)")
+        self.assertEqual(os.listdir(self.folder).count("my.sbl"), 1)
+
+    def test_a_watched_script_that_is_gone_and_saved_is_not_said_to_be_there_again(self):
+        terminal = self.begin(watches=True)
+        os.remove(os.path.join(self.folder, "my.sbl"))
+        self.assertIn("my.sbl is gone", terminal.got(rb"read\.\n> $", 5))
+        terminal.enter("save my.sbl")
+        self.assertEqual(terminal.enter("save my.sbl"), "saved in my.sbl")
+        self.assertEqual(terminal.got(None, 1.5), "")
 
     def test_a_list_that_is_gone_is_not_begun_again(self):
         terminal = self.begin(words="news\n")
