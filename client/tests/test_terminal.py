@@ -86,6 +86,23 @@ class Sessions(Case):
         terminal.save(script % "define stem as ( try ( a b ) or b )")
         self.assertIn("my.sbl:7:18: try never fails", terminal.enter(""))
 
+    def test_a_change_on_the_left_of_an_or_that_may_fail_after_it(self):
+        """`or` puts the cursor back, but not the text. Nothing is said if the rest cannot fail, or if the left side as a whole cannot."""
+        script = "externals ( stem )\nroutines ( a b )\ndefine a as ( ['a'] delete 'b' )\ndefine b as ( ['c'] delete )\ndefine stem as ( do ( %s ) )\n"
+        said = "if what comes after this %s fails, the text stays changed: the or puts back the cursor alone"
+        terminal = self.begin(script % "( ['a'] delete 'x' ) or b", "ab\ncx\n")
+        self.assertIn("my.sbl:5:31: " + said % "delete", self.start)
+        for body, place in (
+            ("a or b", "my.sbl:3:21: " + said % "delete"), ("'x' or ( ['a'] <- 'y' a ) or b", "my.sbl:5:38: " + said % "<-"),
+            ("( 'x' ['a'] delete ) or b", ""), ("b or a", ""), ("( ['a'] delete do 'x' ) or b", ""), ("try ( ['a'] delete 'x' ) or b", ""),
+            ("( ['a'] <- 'y' true ) or b", ""), ("( [substring] among ( 'a' (delete) 'x' (<- 'y') ) ) or b", ""),
+        ):
+            with self.subTest(body):
+                terminal.save(script % body)
+                terminal.enter("")
+                found = [line for line in terminal.enter("lint").replace("\n    ", " ").split("\n") if "stays changed" in line]
+                self.assertEqual(found, [place] if place else [])
+
     def test_a_sign_in_the_name_of_a_macro_is_no_letter(self):
         script = "stringescapes {}\nstringdef o/ hex 'F8'\nexternals ( stem )\ndefine stem as ( [ among ( '{o/}' 'q' (delete) ) )\n"
         self.begin(script, "cat/AB\n")
