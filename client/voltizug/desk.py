@@ -190,7 +190,7 @@ class Desk:
     def refuse(self, reply: Reply, lines: Sequence[str]) -> None:
         """Shows a refusal, the other faults of a text as far as there is room, and what to do."""
         code, name = reply.refusal() or (0, "")
-        self.show_fault(reply.said)
+        self.show_fault(reply.said, lines)
         said = words.sentence(reply, lines, self.bench)
         if lines[0] == "reload":
             # (of a text that is not UTF-8 the program has said what it may be)
@@ -213,11 +213,14 @@ class Desk:
         lines = "line that came with it was" if count == 1 else "{:,} lines that came with it were".format(count)
         self.screen.say("The %s dropped." % lines if count else "")
 
-    def show_fault(self, said: Sequence[str]) -> None:
-        script = self.bench.script
-        tokens = self.bench.file_tokens(not self.bench.is_waiting) if faults.needs_tokens(said) else []
-        # (the line of the script and its carets, which are indented, are not broken)
-        for line in faults.shown(said, script, kept.read_file(script), self.screen.size().columns, tokens):
+    def show_fault(self, said: Sequence[str], lines: Sequence[str] = ()) -> None:
+        """Shows what is said of the script, or of a block, which has more than one line."""
+        bench, script, tokens, typed = self.bench, self.bench.script, [], None  # type: Bench, str, List[rows.Token], Any
+        if faults.needs_tokens(said):
+            tokens, block = bench.tokens_of(script), "".join(line + "\n" for line in lines[1:-1]).encode("utf-8", "surrogateescape")
+            typed = (block, bench.tokens_of(bench.kept.keep("typed", block))) if block else None
+        # (the line of the text and its carets, which are indented, are not broken)
+        for line in faults.shown(said, script, kept.read_file(script), self.screen.size().columns, tokens, typed):
             self.screen.write([line], is_text=line.startswith(faults.INDENT))
 
     def new_lints(self) -> List[str]:

@@ -17,7 +17,7 @@ CODE = re.compile(r"snowbench: (\d+) (\w+)")
 # What is said of a script without an external; what of `non` and a grouping in one word, if no other name is near it.
 NO_EXTERNAL = ": the script declares no external: "
 NEGATED = re.compile(r": non_?([A-Za-z][A-Za-z0-9_]*) is not declared\. (?:Did you mean non\?|Declare )")
-OPEN = re.compile(r"; the \( of (\d+):(\d+) is still open\Z")
+OPEN = re.compile(r":(\d+):(\d+): .*; the \( of (\d+):(\d+) is still open\Z")
 
 
 def code_of(said: Sequence[str]) -> int:
@@ -43,14 +43,16 @@ def place_of(said: Sequence[str], *names: str) -> Place:
     return Place(int(place[1]), int(place[2]), carets.count("^"), place[3]) if place else Place(0, 0, 0, " ".join(said))
 
 
-def shown(said: Sequence[str], script: str, text: Optional[bytes], width: int, tokens: Sequence[Token] = ()) -> List[str]:
-    """Returns the lines on a fault, and the line of the script with carets cut to the window. Tokens are those of the script, if they
-    are needed."""
+def shown(
+    said: Sequence[str], script: str, text: Optional[bytes], width: int, tokens: Sequence[Token] = (), typed: Optional[Tuple[bytes, Sequence[Token]]] = None
+) -> List[str]:
+    """Returns the lines on a fault, and the line of the text with carets cut to the window. Tokens are those of the script, if they are needed;
+    `typed` is a block, if that was refused, with its tokens."""
     lines = [with_file(line, script) for line in said if not CODE.match(line)]
     lines = [line + advice(line, *[*lines[i + 1 : i + 3], "", ""][:2], text or b"") for i, line in enumerate(lines)]
     lines = [line.replace(NO_EXTERNAL, lacking(text, tokens)) if line.startswith(script + NO_EXTERNAL) else line for line in lines]
     lines = [negated(line, tokens) for line in lines]
-    lines = [line + by_layout(line, text or b"", tokens) if line.startswith(script + ":") and OPEN.search(line) else line for line in lines]
+    lines = [line + by_layout(line, *(typed or (text or b"", tokens))) for line in lines]
     if (text or b"").startswith(BOM):
         lines = without_mark(lines, script)
     lines = [line if line.startswith(INDENT) else re.sub(r"\w{61,}", lambda name: short(name[0]), line) for line in map(named, lines)]
@@ -103,7 +105,10 @@ def negated(line: str, tokens: Sequence[Token]) -> str:
 def by_layout(line: str, text: bytes, tokens: Sequence[Token]) -> str:
     """Returns which bracket lacks its end, perhaps: the first one that is closed by one which begins a line and is farther left than the line of
     that bracket. The program names one that is open at the end, and looks at no layout."""
-    begin, end = (tuple(map(int, found)) for found in (*OPEN.findall(line), *re.findall(r":(\d+):(\d+): ", line)[:1]))
+    found = OPEN.search(line)
+    if not found or line.startswith(INDENT):
+        return ""
+    end, begin = (tuple(map(int, place)) for place in ((found[1], found[2]), (found[3], found[4])))
     opened: List[Tuple[int, int, int]] = []
     for token in (token for token in tokens if token.kind != "comment" and token.text in ("(", ")")):
         place, before = line_and_column(text, token.start), text[: token.start].rpartition(b"\n")[2]

@@ -2,7 +2,7 @@
 import re
 import unicodedata
 from collections import Counter
-from itertools import dropwhile, takewhile
+from itertools import accumulate, dropwhile, takewhile
 from typing import Dict, Iterable, List, Sequence, Set, Tuple
 
 from .bench import Bench
@@ -25,6 +25,7 @@ GOVERNING = (*SURE, *NOT_SURE, "test", "or", "goto", "gopast", "non", "loop", "a
 # They take the slice; a routine with one of these changes something, with one of those it moves the cursor.
 TAKING = ("delete", "<-", "->")
 CHANGING, MOVING = (*TAKING[:2], "setmark"), ("gopast", "goto", "next", "hop")
+CHANGING_TEXT = (*TAKING[:2], "<+", "insert", "attach")
 # They may fail. These do not, and what follows them may be a call.
 FAILING = {*MOVING, *"among substring tomark atmark atlimit false fail not non == != < <= > >=".split()}
 PASSING = ("(", "[", "backwards", "test", *SURE)
@@ -36,7 +37,7 @@ def lints(bench: Bench, has_all: bool = False) -> List[str]:
         return ["%s has more than {:,} bytes, and is not looked at".format(LARGEST) % named(bench.script)] if has_all else []
     places, outcomes = bench.places(), bench.outcomes() if has_all or bench.size <= MANY else []
     tokens = [token for token in places.tokens if token.kind != "comment"]
-    found = [*misused(tokens), *unset_slices(places), *bare_commands(places, tokens), *plain_braces(tokens), *late_takings(places)]
+    found = [*misused(tokens), *unset_slices(places), *bare_commands(places, tokens), *plain_braces(tokens), *late_takings(places), *half_done(places)]
     found += stopping_calls(places, bench, [start for start, _ in found]) if has_all or bench.size <= MANY else []
     found += strange_strings(places, outcomes, tokens) if has_all or bench.size >= FEW else []
     found += wrong_ways(places, bench, outcomes) if outcomes and places.entries else []
@@ -153,6 +154,28 @@ def callers(texts: Dict[str, Set[str]]) -> Dict[str, Set[str]]:
         for other in part & found.keys():
             found[other].add(name)
     return found
+
+
+def half_done(places: Places) -> Iterable[Tuple[int, str]]:
+    """The first command on the left of an `or`, or of a routine there, that changes the text, if what comes after it on the left may fail."""
+    bodies = {name: places.part(name)[BODY:] for name in places.of_kind("routine")}
+    doubtful = {*FAILING, *places.of_kind("grouping"), *may_fail(places)}
+    what = "if what comes after this {} fails, the text stays changed: the or puts back the cursor alone"
+    for side in (left_side(body, i, bodies) for body in bodies.values() for i, token in enumerate(body) if token.text == "or"):
+        depths = list(accumulate((token.text == "(") - (token.text == ")") for token in side))
+        at = next((i for i, token in enumerate(side) if token.text in CHANGING_TEXT and not depths[i]), len(side))
+        if any(token.kind == "literal" or token.text in doubtful for token in unsure(side[at:])):
+            yield side[at].start, what.format(side[at].text)
+
+
+def left_side(body: Sequence[Token], at: int, bodies: Dict[str, List[Token]]) -> Sequence[Token]:
+    """Returns the commands in the bracket, or in the routine, that is directly before an `or`; none if it never fails."""
+    depths = accumulate((token.text == ")") - (token.text == "(") for token in reversed(body[:at]))
+    begin = at - 1 - next((i for i, depth in enumerate(depths) if not depth), at - 1)
+    if begin and body[begin - 1].text in (*SURE, "among"):
+        return []
+    called = bodies.get(body[begin].text, [])
+    return body[begin + 1 : at - 1] if body[begin].text == "(" else called[1:-1] if called and end_of(called, 0) == len(called) else called
 
 
 def late_takings(places: Places) -> Iterable[Tuple[int, str]]:

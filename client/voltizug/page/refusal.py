@@ -15,7 +15,7 @@ MOST = 200
 def refusal(bench: Bench, said: Sequence[str], typed: Optional[str] = None) -> Dict[str, Any]:
     """Returns what is shown. The text is that of the file if none was typed."""
     script, data = bench.script, read_file(bench.script) or b""
-    tokens = bench.file_tokens(not bench.is_waiting) if typed is None and faults.needs_tokens(said) else []
+    tokens = bench.tokens_of(script) if typed is None and faults.needs_tokens(said) else []
     lines = faults.shown(said, script, data if typed is None else None, 1 << 20, tokens) or [named(line) for line in said]
     place = faults.place_of(lines, named(script), "replace")
     # (a fault of the words has no place in the script)
