@@ -6,7 +6,7 @@ use crate::definitions::{push_no_definition, push_undefined, push_wrong_mode};
 use crate::encodings::push_conversion;
 use crate::expectations::{push_expectation, push_use};
 use crate::foreign::{advice_on, foreign_character, is_end_line, left_out_text};
-use crate::near::{push_listed, push_near, push_near_reserved, push_near_word};
+use crate::near::{nearest_of, push_listed, push_near_word};
 use crate::reasons::{begins_sentence, reason};
 use crate::sites::{Site, push_advice};
 use crate::undeclared::push_undeclared;
@@ -321,7 +321,8 @@ pub(crate) fn push_external(
     shown.push_str(". It has ")?;
     push_listed(shown, &there, " and ")?;
     shown.push_str(": use --external ")?;
-    push_cut(shown, first)
+    let near = nearest_of(alloc, wanted, &there)?;
+    push_cut(shown, near.unwrap_or(*first))
 }
 
 /// Appends that a byte is not UTF-8.
