@@ -68,7 +68,7 @@ def advice(line: str, source: str, carets: str, text: bytes) -> str:
     word = [*source.split(), ""][0]
     if text and b"stringescapes" not in text and ": } can only be" in line:
         return ". A literal with {..} needs stringescapes {} above it"
-    if re.search(r"\w can only be in a literal", line) and source.count("'") % 2:
+    if re.search(r"[\w{] can only be in a literal", line) and source.count("'") % 2 and "missing quote" not in line:
         return ". Look for a missing quote before it, too"
     if " => is of Snowball" in line and re.search(r"\$\s*\w+\s*=>", source):
         return ". Did you mean >=?"

@@ -341,6 +341,15 @@ fn is_insert_fault(character: char) -> bool {
     matches!(character, '\t'..='\r' | ' ' | '\'' | '\u{FEFF}')
 }
 
+/// Returns whether a quote is before an offset, and between them no white space.
+fn follows_quote(text: &[u8], offset: usize) -> bool {
+    let mut follows = false;
+    for byte in text.get(..offset).unwrap_or(text) {
+        follows = *byte == b'\'' || (follows && !byte.is_ascii_whitespace());
+    }
+    follows
+}
+
 /// Appends what is wrong with a character that begins no token.
 fn push_character(shown: &mut String, place: Place<'_>) -> Result<(), AllocError> {
     let Place { faulty, spot } = place;
@@ -357,6 +366,8 @@ fn push_character(shown: &mut String, place: Place<'_>) -> Result<(), AllocError
     shown.push_str(" can only be in a literal or a comment")?;
     let advice = if is_end_line(faulty.text, spot.begin) {
         Some("The line that ends a text has a point and no blank after it")
+    } else if character == '{' && follows_quote(faulty.text, spot.begin) {
+        Some("If a literal is meant, look for a missing quote before it")
     } else if character > '\u{7F}' && matches!(faulty.part, Some(Part::Grouping(_))) {
         Some("Characters are in quotes")
     } else {
