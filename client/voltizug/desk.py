@@ -199,7 +199,7 @@ class Desk:
         elif code == 48 and not reply.said:
             # (a fault of the whole script has no line)
             said = "%s. %s" % (name, said)
-        found, most = self.bench.read("faults")[1:] if code == 48 else [], max(1, self.screen.size().lines // 3)
+        found, most = faults.without_following(self.bench.read("faults"))[1:] if code == 48 else [], max(1, self.screen.size().lines // 3)
         others = ["also %s:%s: %s" % row[5:8] if row.line else "also: " + row.sentence for row in found[:most]]
         others = [layout.cut(layout.named(line), self.screen.size().columns) for line in others]
         self.screen.say(said, *others, "{:,} more faults".format(len(found) - most) if len(found) > most else "")

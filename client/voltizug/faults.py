@@ -1,6 +1,6 @@
 """What the program says about a fault, fitted to a window, with columns as an editor counts them, names of files, and advice."""
 import re
-from typing import List, NamedTuple, Optional, Sequence, Tuple
+from typing import Any, List, NamedTuple, Optional, Sequence, Tuple
 
 from .language import ITEMS
 from .layout import named, short
@@ -80,6 +80,12 @@ def advice(line: str, source: str, carets: str, text: bytes) -> str:
     if unknown and re.search(r"(\[\s*|<-\s*|<\+\s*)%s\b" % unknown[1], source):
         return " If letters are meant: '%s'." % short(unknown[1])
     return "." + meant(word, ITEMS) if " can only be in a literal" in line and word not in ITEMS and meant(word, ITEMS) else ""
+
+
+def without_following(found: Sequence[Any]) -> List[Any]:
+    """Returns the rows of `faults` without those of modes, if these only follow from a misspelt `backwards`."""
+    is_misspelt = any("Did you mean backwards?" in row.sentence for row in found)
+    return [row for row in found if not is_misspelt or row.name != "WrongMode"]
 
 
 def needs_tokens(said: Sequence[str]) -> bool:

@@ -34,6 +34,6 @@ def all_faults(bench: Bench, text: bytes) -> List[List[Any]]:
     """Returns the faults of the text that was refused last, if the program tells them: line, begin and end in the text that is shown, sentence."""
     if bench.is_waiting:
         return []
-    found = [row for row in bench.read("faults") if row.end and int(row.end) <= len(text)][:MOST]
+    found = [row for row in faults.without_following(bench.read("faults")) if row.end and int(row.end) <= len(text)][:MOST]
     at = ink.units(text, (int(place) for row in found for place in (row.start, row.end)))
     return [[int(row.line), at[int(row.start)], at[int(row.end)], row.sentence] for row in found]
