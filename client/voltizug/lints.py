@@ -3,7 +3,7 @@ import re
 import unicodedata
 from collections import Counter
 from itertools import accumulate, dropwhile, takewhile
-from typing import Dict, Iterable, List, Sequence, Set, Tuple
+from typing import Any, Dict, Iterable, List, Sequence, Set, Tuple
 
 from .bench import Bench
 from .conditions import BODY
@@ -14,6 +14,8 @@ from .rows import Outcome, Token
 
 # (of few words most letters are missing)
 MOST, FEW, MANY = 5, 50, 5000
+# From this length on the letters of a macro count, and not their order.
+LONG = 100
 # A literal after one of these is put into the text.
 PUTTING = ("<-", "<+", "insert", "attach", "=", "+=", "=>")
 # What the token after an empty slice says.
@@ -230,15 +232,41 @@ def end_of(tokens: Sequence[Token], at: int) -> int:
 
 
 def strange_strings(places: Places, outcomes: Sequence[Outcome], tokens: Sequence[Token]) -> Iterable[Tuple[int, str]]:
-    """The strings of amongs with a letter that no word has and no command puts in. (If what is put in may have macros, none is looked at.)"""
-    put = "".join(token.text for before, token in zip(tokens, tokens[1:]) if token.kind == "literal" and before.text in PUTTING)
-    if not outcomes or set(put) & set("".join(token.text for token in tokens if token.kind == "inserts")):
+    """The strings of amongs with a letter that no word has and no command puts in."""
+    if not outcomes:
         return
-    there: Set[str] = set(put).union(*(row.word + row.stem * (row.kind == "stem") for row in outcomes))
+    there: Set[str] = set().union(*put_in(tokens), *(row.word + row.stem * (row.kind == "stem") for row in outcomes))
     for (_, _, string), row in places.entries.items():
         strange = " ".join(sorted(set(string) - there))
         if strange:
             yield int(row.start), "'%s' has %s, which no word has and no command puts in" % (short(string), short(strange))
+
+
+def put_in(tokens: Sequence[Token]) -> Iterable[str]:
+    """The values of the literals that commands put into the text."""
+    signs, macros = "", {}  # type: str, Dict[str, str]
+    for i, token in enumerate(tokens):
+        signs = token.text if token.kind == "inserts" else signs
+        if token.kind != "literal":
+            continue
+        value = inserted(token.text[1:-1], signs, macros)
+        first, second, last = ["", "", "", *(token.text for token in tokens[max(0, i - 3) : i])][-3:]
+        if "stringdef" in (first, second):
+            base = 0 if second == "stringdef" else 16 if last == "hex" else 10
+            value = "".join(chr(min(int(code, base), 0x10FFFF)) for code in value.split()) if base else value
+            # (macros of macros may be long: then the letters are enough)
+            macros[second if base else last] = value if len(value) < LONG else "".join(set(value))
+        elif last in PUTTING:
+            yield value
+
+
+def inserted(text: str, signs: str, macros: Dict[str, str]) -> str:
+    """Returns a literal with what its insertions stand for: a macro, a character by its code, a quote or the first sign itself."""
+    def value(found: Any) -> str:
+        name = found[1]
+        return macros[name] if name in macros else chr(int(name[2:], 16)) if name.startswith("U+") else name.strip()
+
+    return re.sub("%s(.*?)%s" % (re.escape(signs[0]), re.escape(signs[1])), value, text, flags=re.S) if signs else text
 
 
 def wrong_ways(places: Places, bench: Bench, outcomes: Sequence[Outcome]) -> Iterable[Tuple[int, str]]:
