@@ -24,6 +24,8 @@ EMPTY = {"among": "[substring] is meant, perhaps", "<-": "it has no character to
 SURE, NOT_SURE = ("do", "try", "repeat"), ("not", "fail", "for", "and")
 # A routine after one of these may fail.
 GOVERNING = (*SURE, *NOT_SURE, "test", "or", "goto", "gopast", "non", "loop", "atleast")
+# They ask what the command after them signals.
+TESTING = ("not", "fail", "test", "goto", "gopast")
 # They take the slice; a routine with one of these changes something, with one of those it moves the cursor.
 TAKING = ("delete", "<-", "->")
 CHANGING, MOVING = (*TAKING[:2], "setmark"), ("gopast", "goto", "next", "hop")
@@ -40,6 +42,7 @@ def lints(bench: Bench, has_all: bool = False) -> List[str]:
     places, outcomes = bench.places(), bench.outcomes() if has_all or bench.size <= MANY else []
     tokens = [token for token in places.tokens if token.kind != "comment"]
     found = [*misused(tokens), *unset_slices(places), *bare_commands(places, tokens), *plain_braces(tokens), *late_takings(places), *half_done(places)]
+    found += [*idle_amongs(places), *unset_integers(places)]
     found += stopping_calls(places, bench, [start for start, _ in found]) if has_all or bench.size <= MANY else []
     found += strange_strings(places, outcomes, tokens) if has_all or bench.size >= FEW else []
     found += wrong_ways(places, bench, outcomes) if outcomes and places.entries else []
@@ -209,6 +212,65 @@ def unset_slices(places: Places) -> Iterable[Tuple[int, str]]:
         for token in [token for token in part if token.text in TAKING and lacking][:1]:
             what = "{}, what it calls and what calls it have no {}: this {} takes an earlier slice, or an empty one"
             yield token.start, what.format(name, in_words(lacking, "and no"), token.text)
+
+
+def idle_amongs(places: Places) -> Iterable[Tuple[int, str]]:
+    """An among without a command, if [substring] is before it, nothing after it or in what calls its routine takes the slice, and no call is a test."""
+    parts = {name: places.part(name)[BODY:] for name in places.of_kind("routine")}
+    texts = {name: {token.text for token in part} for name, part in parts.items()}
+    takers, ways = {name for name in those_with(TAKING, places) if "[" not in texts[name]}, callers(texts)
+    what = "no string here has a command, and nothing takes the slice of [substring]: (delete) after the strings is meant, perhaps"
+    for name, part in parts.items():
+        last = 0
+        for i, token in enumerate(part):
+            last = i if token.text == "substring" else last
+            if token.text == "among":
+                has_slice, end, last = last > 0 and part[last - 1].text + part[last + 1].text == "[]", end_of(part, i + 1), 0
+                if not has_slice or any(other.text == "(" for other in part[i + 2 : end]):
+                    continue
+                after = {other.text for other in part[end:]}.union(*(texts[other] for other in reached([name], ways) - {name}))
+                calls = (is_test(other, at) for other in parts.values() for at, call in enumerate(other) if call.text == name)
+                if after.isdisjoint((*TAKING, *takers)) and not any(calls):
+                    yield token.start, what
+
+
+def is_test(part: Sequence[Token], at: int) -> bool:
+    """Whether it may count what a call signals: no `do` is before it or before a bracket that it ends, and more comes after it."""
+    begin = end = at
+    while not begin or part[begin - 1].text not in SURE:
+        if begin and (part[begin - 1].kind == "literal" or part[begin - 1].text in TESTING):
+            return True
+        if end + 1 == len(part):
+            return False
+        if part[end + 1].text != ")":
+            return True
+        end += 1
+        begin = next(i for i in range(end, -1, -1) if part[i].text == "(" and end_of(part, i) == end + 1)
+    return False
+
+
+def unset_integers(places: Places) -> Iterable[Tuple[int, str]]:
+    """The first command of a run that has an integer which no command of a run sets."""
+    parts = {name: places.part(name)[BODY:] for name in places.of_kind("routine")}
+    kinds, setters = Names(places.tokens).kinds, {}  # type: Dict[str, str], Dict[str, Dict[str, bool]]
+    calls = {name: {token.text for token in part}.intersection(parts) for name, part in parts.items()}
+    running = reached([name for name in parts if kinds.get(name) == "external"], calls)
+    for name, part in parts.items():
+        for integer in set_in(part):
+            setters.setdefault(integer, {})[name] = name in running
+    first = {token.text: token for name in reversed(list(parts)) if name in running for token in reversed(parts[name])}
+    for integer in [name for name, kind in kinds.items() if kind == "integer" and name in first]:
+        others = setters.get(integer, {})
+        if not any(others.values()):
+            why = "no run comes to %s, which sets it" % in_words(list(others), "or") if others else "no command sets it"
+            yield first[integer].start, "%s is 0 in each run: %s" % (short(integer), why)
+
+
+def set_in(part: Sequence[Token]) -> Iterable[str]:
+    """The integers that commands of a body set."""
+    for before, token, after in zip(part, part[1:], [*part[2:], *part[:1]]):
+        if before.text == "setmark" or before.text == "$" and after.text in ("=", "+=", "-=", "*=", "/="):
+            yield token.text
 
 
 def reached(names: Sequence[str], ways: Dict[str, Set[str]]) -> Set[str]:
