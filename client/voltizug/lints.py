@@ -42,7 +42,7 @@ def lints(bench: Bench, has_all: bool = False) -> List[str]:
     places, outcomes = bench.places(), bench.outcomes() if has_all or bench.size <= MANY else []
     tokens = [token for token in places.tokens if token.kind != "comment"]
     found = [*misused(tokens), *unset_slices(places), *bare_commands(places, tokens), *plain_braces(tokens), *late_takings(places), *half_done(places)]
-    found += [*idle_amongs(places), *unset_integers(places)]
+    found += [*idle_amongs(places), *unset_integers(places), *undefined(places)]
     found += stopping_calls(places, bench, [start for start, _ in found]) if has_all or bench.size <= MANY else []
     found += strange_strings(places, outcomes, tokens) if has_all or bench.size >= FEW else []
     found += wrong_ways(places, bench, outcomes) if outcomes and places.entries else []
@@ -271,6 +271,13 @@ def set_in(part: Sequence[Token]) -> Iterable[str]:
     for before, token, after in zip(part, part[1:], [*part[2:], *part[:1]]):
         if before.text == "setmark" or before.text == "$" and after.text in ("=", "+=", "-=", "*=", "/="):
             yield token.text
+
+
+def undefined(places: Places) -> Iterable[Tuple[int, str]]:
+    """The declarations of routines and groupings that have no definition."""
+    names = Names(places.tokens)
+    for name in [name for name, kind in names.kinds.items() if kind in ("external", "routine", "grouping") and name not in names.items]:
+        yield names.declared[name].start, "%s is declared, but not defined" % short(name)
 
 
 def reached(names: Sequence[str], ways: Dict[str, Set[str]]) -> Set[str]:
