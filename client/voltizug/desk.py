@@ -252,8 +252,9 @@ class Desk:
         if is_reload:
             self.warn()
         own = edit.changes if edit.own is None else edit.own
-        refused = [row.word for row in own if row.kind == "changed" and row.new_kind == "refused" and row.new in loops.NAMES]
-        tail = [*(self.new_lints() if is_reload or edit.command in (*BLOCKS, *OPEN_BLOCKS) else []), self.turning(refused[0]) if refused else ""]
+        refused = [row for row in own if row.kind == "changed" and row.new_kind == "refused"]
+        worst = next((row.word for row in refused if row.new in loops.NAMES), refused[0].word if refused else "")
+        tail = [*(self.new_lints() if is_reload or edit.command in (*BLOCKS, *OPEN_BLOCKS) else []), self.ending(worst) if refused else ""]
         note = words.NOTES.get(edit.note, "").format(script=short(self.bench.script))
         last = self.screen.broken([line for line in [*tail, note, self.note_words(), layout.families_line(edit.pairs), layout.summary(edit)] if line])
         size = self.screen.size()
@@ -265,6 +266,10 @@ class Desk:
     def added(self, changes: Sequence[Any]) -> Dict[str, rows.Outcome]:
         """Returns the outcomes of the words if some were added, by the words."""
         return self.bench.by_word() if any(row.kind == "added" for row in changes) else {}
+
+    def ending(self, word: str) -> str:
+        """Returns the sentence on what goes round in a refused run, or else on where it ends."""
+        return self.turning(word) or loops.ending(word, self.bench.read("events " + word), self.bench)
 
     def turning(self, word: str) -> str:
         return loops.turning(word, self.bench.read("events " + word), self.bench)
