@@ -48,6 +48,13 @@ class Layouts(Case):
             "families: understemmed 735 -> 168 of 23,854 pairs (0.7 %), overstemmed 121 -> 2 of 9 pairs (22.2 %)",
         )
 
+    def test_families_of_refused_words(self):
+        """They have no stems, so there are fewer pairs."""
+        before, fewer, none = rows.read("families", ["pairs,23,7,9,1", "pairs,20,7,9,1", "pairs,0,0,0,0"])
+        shown = "families: understemmed 7 of 23 -> 7 of 20 pairs (35.0 %), overstemmed 1 of 9 pairs (11.1 %)"
+        self.assertEqual(layout.families_line((before, fewer)), shown)
+        self.assertEqual(layout.families_line((before, none)), "families: no two of their words have a stem")
+
 
 class Loops(Case):
     def turn(self, *lines: str):

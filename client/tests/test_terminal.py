@@ -14,9 +14,9 @@ AUTHOR, WORDS = example("author.sbl"), example("author.words")
 
 
 class Sessions(Case):
-    def begin(self, script=AUTHOR, words=WORDS, **options):
+    def begin(self, script=AUTHOR, words=WORDS, watches=False, **options):
         self.folder = self.room(my_sbl=script, my_words=words)
-        terminal = self.terminal(self.folder, **options)
+        terminal = self.terminal(self.folder, *["--watch", "my.sbl", "my.words"] * watches, **options)
         self.start = terminal.got()
         return terminal
 
@@ -86,6 +86,23 @@ class Sessions(Case):
         terminal.save(script % "define stem as ( try ( a b ) or b )")
         self.assertIn("my.sbl:7:18: try never fails", terminal.enter(""))
 
+    def test_a_change_on_the_left_of_an_or_that_may_fail_after_it(self):
+        """`or` puts the cursor back, but not the text. Nothing is said if the rest cannot fail, or if the left side as a whole cannot."""
+        script = "externals ( stem )\nroutines ( a b )\ndefine a as ( ['a'] delete 'b' )\ndefine b as ( ['c'] delete )\ndefine stem as ( do ( %s ) )\n"
+        said = "if what comes after this %s fails, the text stays changed: the or puts back the cursor alone"
+        terminal = self.begin(script % "( ['a'] delete 'x' ) or b", "ab\ncx\n")
+        self.assertIn("my.sbl:5:31: " + said % "delete", self.start)
+        for body, place in (
+            ("a or b", "my.sbl:3:21: " + said % "delete"), ("'x' or ( ['a'] <- 'y' a ) or b", "my.sbl:5:38: " + said % "<-"),
+            ("( 'x' ['a'] delete ) or b", ""), ("b or a", ""), ("( ['a'] delete do 'x' ) or b", ""), ("try ( ['a'] delete 'x' ) or b", ""),
+            ("( ['a'] <- 'y' true ) or b", ""), ("( [substring] among ( 'a' (delete) 'x' (<- 'y') ) ) or b", ""),
+        ):
+            with self.subTest(body):
+                terminal.save(script % body)
+                terminal.enter("")
+                found = [line for line in terminal.enter("lint").replace("\n    ", " ").split("\n") if "stays changed" in line]
+                self.assertEqual(found, [place] if place else [])
+
     def test_a_sign_in_the_name_of_a_macro_is_no_letter(self):
         script = "stringescapes {}\nstringdef o/ hex 'F8'\nexternals ( stem )\ndefine stem as ( [ among ( '{o/}' 'q' (delete) ) )\n"
         self.begin(script, "cat/AB\n")
@@ -145,6 +162,33 @@ class Sessions(Case):
         terminal = self.begin()
         os.remove(os.path.join(self.folder, "my.sbl"))
         self.assertEqual(terminal.enter(""), "my.sbl cannot be read: there is no such file. The script that was read stays: save FILE keeps it.")
+
+    def test_a_script_that_is_gone_is_saved_anew_if_that_is_asked_for_again(self):
+        terminal, script = self.begin(), os.path.join(self.folder, "my.sbl")
+        terminal.enter("routine plural", "true", ".", "undo")
+        os.remove(script)
+        said = "my.sbl is not there any more (deleted or renamed). Nothing was written: save my.sbl again writes it anew."
+        self.assertEqual(terminal.enter("save my.sbl"), said)
+        self.assertEqual(terminal.enter("stats", "save ./my.sbl"), said.replace("my.sbl", "./my.sbl"))
+        self.assertFalse(os.path.exists(script))
+        self.assertEqual(terminal.enter("save ./my.sbl"), "saved in ./my.sbl")
+        with open(script) as file:
+            self.assertEqual(file.read(), AUTHOR)
+        # (undo and redo are as they were, and the file is the one that is read and saved)
+        self.assertIn("made again: routine plural; 3 words, 3 split", terminal.enter("redo"))
+        self.assertEqual(terminal.enter("save my.sbl"), "saved in my.sbl")
+        with open(script) as file:
+            self.assertIn("plural as true", file.read())
+        self.assertEqual(terminal.enter(""), "my.sbl has not changed since it was read.\n3 words, 3 split since the mark (this edit changed none)")
+        self.assertEqual(os.listdir(self.folder).count("my.sbl"), 1)
+
+    def test_a_watched_script_that_is_gone_and_saved_is_not_said_to_be_there_again(self):
+        terminal = self.begin(watches=True)
+        os.remove(os.path.join(self.folder, "my.sbl"))
+        self.assertIn("my.sbl is gone", terminal.got(rb"read\.\n> $", 5))
+        terminal.enter("save my.sbl")
+        self.assertEqual(terminal.enter("save my.sbl"), "saved in my.sbl")
+        self.assertEqual(terminal.got(None, 1.5), "")
 
     def test_a_list_that_is_gone_is_not_begun_again(self):
         terminal = self.begin(words="news\n")

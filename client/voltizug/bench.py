@@ -1,5 +1,6 @@
 """What a face asks: edits and what they change, places, and files. It holds the program, keeps no history of its own, and makes no sentence."""
 import os
+import tempfile
 import time
 from typing import Any, Callable, Dict, List, NamedTuple, Optional, Sequence, Set, Tuple
 
@@ -78,19 +79,6 @@ class Stage:
         known.note = ", as it was read" if self.script in self.saved() else ""
         return known
 
-    def file_tokens(self, is_begun: bool) -> List[rows.Token]:
-        """Returns the tokens of SCRIPT, whose commands may have faults. If the program is not begun, another one is asked."""
-        if is_begun:
-            return rows.tokens(self.known("tokens " + self.script) or [])
-        least = Memory(b"externals ( stem ) define stem as true\n")
-        other = Program([self.program.command[0], "work", "--text"], least.path, None, "", self.program.bell)
-        try:
-            other.begin([], least.path)
-            reply = other.ask(["tokens " + self.script])
-        finally:
-            other.stop()
-        return rows.tokens(reply.lines) if reply.is_done else []
-
     def outcomes(self) -> List[rows.Outcome]:
         return rows.outcomes(self.known("stems") or [])
 
@@ -134,6 +122,7 @@ class Bench(Stage):
     def look(self, *paths: str) -> None:
         """Notes files as they are now, all without names: they are read next."""
         self.seen.update({path: state_of(path) for path in paths or (self.script, self.words) if path})
+        self.gone.difference_update(paths)
 
     def close(self, is_kept: bool) -> None:
         """Ends the program. The room may be kept if it has typed edits."""
@@ -167,6 +156,19 @@ class Bench(Stage):
         if reply.is_done:
             self.note(lines[0], reply)
         return reply
+
+    def tokens_of(self, path: str) -> List[rows.Token]:
+        """Returns the tokens of a file, whose commands may have faults. If the program is not begun, another one is asked."""
+        if not self.is_waiting:
+            return rows.tokens(self.known("tokens " + path) or [])
+        least = Memory(b"externals ( stem )\ndefine stem as true\n")
+        other = Program([self.program.command[0], "work", "--text"], least.path, None, "", self.program.bell)
+        try:
+            other.begin([], least.path)
+            reply = other.ask(["tokens " + path])
+        finally:
+            other.stop()
+        return rows.tokens(reply.lines) if reply.is_done else []
 
     def note(self, line: str, reply: Reply) -> None:
         """Notes an accepted command that is no edit."""
@@ -271,20 +273,36 @@ class Bench(Stage):
 
     # Files
 
-    def may_write(self, word: str, path: str) -> str:
-        """Returns a key of words.MAY_NOT if the program would write to a file, but should not, or only if it is asked for again (with a ?)."""
-        if is_same(path, self.script) and word == "save":
-            is_refused = self.refused_text is not None and self.refused_text == read_file(self.script)
-            return "refused?" if is_refused else "undone?" if self.is_older and self.script not in self.saved() else ""
-        name = os.path.realpath(path)
-        if not os.path.isfile(path) or is_same(path, self.script) or is_same(path, self.words):
-            return ""
-        return "there" if name not in self.written else "others" if self.written[name] != state_of(path) else ""
+    def is_script(self, path: str) -> bool:
+        """Whether a path is SCRIPT, also if that is gone."""
+        return is_same(path, self.script) or os.path.realpath(path) == os.path.realpath(self.script)
 
-    def write(self, word: str, path: str) -> Reply:
+    def may_write(self, command: str, path: str) -> str:
+        """Returns a key of words.MAY_NOT if a command, or a report, may not write to a file, or (with a ?) only if it is asked for again."""
+        name, folder, is_there = os.path.realpath(path), os.path.dirname(path) or ".", os.path.exists(path)
+        is_list, is_save, is_append = is_same(path, self.words), command == "save", command == "append"
+        is_report, is_own = command not in ("save", "approve", "append"), is_save and self.is_script(path)
+        is_refused = self.refused_text is not None and self.refused_text == read_file(self.script)
+        is_new = is_own or is_append or not is_there
+        return next((why for why, is_so in (
+            ("words", is_list and not is_append),
+            ("script", self.is_script(path) and not is_save),
+            ("no folder", not os.path.isdir(folder)),
+            ("folder", os.path.isdir(path)),
+            ("closed", not os.access(path if is_there else folder, os.W_OK)),
+            ("gone?", is_own and not is_there),
+            ("gone", is_append and path == self.words and not os.path.lexists(path)),
+            ("refused?", is_own and is_refused),
+            ("undone?", is_own and self.is_older and self.script not in self.saved()),
+            ("again?", is_report and os.path.isfile(path)),
+            ("there", not is_new and (is_report or os.path.isfile(path) and name not in self.written)),
+            ("others", not is_new and os.path.isfile(path) and self.written.get(name) != state_of(path)),
+        ) if is_so), "")
+
+    def write(self, command: str, path: str) -> Reply:
         """Has the program write the script (`save`) or the stems (`approve`) to a file."""
-        is_own = is_same(path, self.script)
-        reply = self.ask("%s %s" % (word, self.script if is_own else path))
+        is_own = self.is_script(path)
+        reply = self.write_anew() if is_own and not os.path.exists(path) else self.ask("%s %s" % (command, self.script if is_own else path))
         if reply.is_done:
             self.written[os.path.realpath(path)] = state_of(path)
             if is_own:
@@ -295,6 +313,20 @@ class Bench(Stage):
                 self.note_file()
             self.keep()
         return reply
+
+    def write_anew(self) -> Reply:
+        """Writes SCRIPT, which is gone. (The program overwrites only what it has read: so it writes another file, which becomes SCRIPT and is read.)"""
+        target = os.path.realpath(self.script)
+        try:
+            with tempfile.TemporaryDirectory(dir=os.path.dirname(target)) as room:
+                new = os.path.join(room, "new")
+                reply = self.ask("save " + new)
+                if reply.is_done:
+                    os.replace(new, target)
+                    self.program.ask_each([[self.program.reload]], is_deaf=True)
+            return reply
+        except OSError:
+            return Reply(DONE, ["no 57 NoFile"], [])
 
 
 def pairs_of(*replies: Reply) -> Tuple[Any, ...]:

@@ -190,7 +190,7 @@ class Desk:
     def refuse(self, reply: Reply, lines: Sequence[str]) -> None:
         """Shows a refusal, the other faults of a text as far as there is room, and what to do."""
         code, name = reply.refusal() or (0, "")
-        self.show_fault(reply.said)
+        self.show_fault(reply.said, lines)
         said = words.sentence(reply, lines, self.bench)
         if lines[0] == "reload":
             # (of a text that is not UTF-8 the program has said what it may be)
@@ -199,7 +199,7 @@ class Desk:
         elif code == 48 and not reply.said:
             # (a fault of the whole script has no line)
             said = "%s. %s" % (name, said)
-        found, most = self.bench.read("faults")[1:] if code == 48 else [], max(1, self.screen.size().lines // 3)
+        found, most = faults.without_following(self.bench.read("faults"))[1:] if code == 48 else [], max(1, self.screen.size().lines // 3)
         others = ["also %s:%s: %s" % row[5:8] if row.line else "also: " + row.sentence for row in found[:most]]
         others = [layout.cut(layout.named(line), self.screen.size().columns) for line in others]
         self.screen.say(said, *others, "{:,} more faults".format(len(found) - most) if len(found) > most else "")
@@ -213,11 +213,14 @@ class Desk:
         lines = "line that came with it was" if count == 1 else "{:,} lines that came with it were".format(count)
         self.screen.say("The %s dropped." % lines if count else "")
 
-    def show_fault(self, said: Sequence[str]) -> None:
-        script = self.bench.script
-        tokens = self.bench.file_tokens(not self.bench.is_waiting) if faults.needs_tokens(said) else []
-        # (the line of the script and its carets, which are indented, are not broken)
-        for line in faults.shown(said, script, kept.read_file(script), self.screen.size().columns, tokens):
+    def show_fault(self, said: Sequence[str], lines: Sequence[str] = ()) -> None:
+        """Shows what is said of the script, or of a block, which has more than one line."""
+        bench, script, tokens, typed = self.bench, self.bench.script, [], None  # type: Bench, str, List[rows.Token], Any
+        if faults.needs_tokens(said):
+            tokens, block = bench.tokens_of(script), "".join(line + "\n" for line in lines[1:-1]).encode("utf-8", "surrogateescape")
+            typed = (block, bench.tokens_of(bench.kept.keep("typed", block))) if block else None
+        # (the line of the text and its carets, which are indented, are not broken)
+        for line in faults.shown(said, script, kept.read_file(script), self.screen.size().columns, tokens, typed):
             self.screen.write([line], is_text=line.startswith(faults.INDENT))
 
     def new_lints(self) -> List[str]:
@@ -249,8 +252,9 @@ class Desk:
         if is_reload:
             self.warn()
         own = edit.changes if edit.own is None else edit.own
-        refused = [row.word for row in own if row.kind == "changed" and row.new_kind == "refused" and row.new in loops.NAMES]
-        tail = [*(self.new_lints() if is_reload or edit.command in (*BLOCKS, *OPEN_BLOCKS) else []), self.turning(refused[0]) if refused else ""]
+        refused = [row for row in own if row.kind == "changed" and row.new_kind == "refused"]
+        worst = next((row.word for row in refused if row.new in loops.NAMES), refused[0].word if refused else "")
+        tail = [*(self.new_lints() if is_reload or edit.command in (*BLOCKS, *OPEN_BLOCKS) else []), self.ending(worst) if refused else ""]
         note = words.NOTES.get(edit.note, "").format(script=short(self.bench.script))
         last = self.screen.broken([line for line in [*tail, note, self.note_words(), layout.families_line(edit.pairs), layout.summary(edit)] if line])
         size = self.screen.size()
@@ -262,6 +266,10 @@ class Desk:
     def added(self, changes: Sequence[Any]) -> Dict[str, rows.Outcome]:
         """Returns the outcomes of the words if some were added, by the words."""
         return self.bench.by_word() if any(row.kind == "added" for row in changes) else {}
+
+    def ending(self, word: str) -> str:
+        """Returns the sentence on what goes round in a refused run, or else on where it ends."""
+        return self.turning(word) or loops.ending(word, self.bench.read("events " + word), self.bench)
 
     def turning(self, word: str) -> str:
         return loops.turning(word, self.bench.read("events " + word), self.bench)

@@ -1,6 +1,6 @@
 """What the program says about a fault, fitted to a window, with columns as an editor counts them, names of files, and advice."""
 import re
-from typing import List, NamedTuple, Optional, Sequence, Tuple
+from typing import Any, List, NamedTuple, Optional, Sequence, Tuple
 
 from .language import ITEMS
 from .layout import named, short
@@ -17,7 +17,7 @@ CODE = re.compile(r"snowbench: (\d+) (\w+)")
 # What is said of a script without an external; what of `non` and a grouping in one word, if no other name is near it.
 NO_EXTERNAL = ": the script declares no external: "
 NEGATED = re.compile(r": non_?([A-Za-z][A-Za-z0-9_]*) is not declared\. (?:Did you mean non\?|Declare )")
-OPEN = re.compile(r"; the \( of (\d+):(\d+) is still open\Z")
+OPEN = re.compile(r":(\d+):(\d+): .*; the \( of (\d+):(\d+) is still open\Z")
 
 
 def code_of(said: Sequence[str]) -> int:
@@ -43,14 +43,16 @@ def place_of(said: Sequence[str], *names: str) -> Place:
     return Place(int(place[1]), int(place[2]), carets.count("^"), place[3]) if place else Place(0, 0, 0, " ".join(said))
 
 
-def shown(said: Sequence[str], script: str, text: Optional[bytes], width: int, tokens: Sequence[Token] = ()) -> List[str]:
-    """Returns the lines on a fault, and the line of the script with carets cut to the window. Tokens are those of the script, if they
-    are needed."""
+def shown(
+    said: Sequence[str], script: str, text: Optional[bytes], width: int, tokens: Sequence[Token] = (), typed: Optional[Tuple[bytes, Sequence[Token]]] = None
+) -> List[str]:
+    """Returns the lines on a fault, and the line of the text with carets cut to the window. Tokens are those of the script, if they are needed;
+    `typed` is a block, if that was refused, with its tokens."""
     lines = [with_file(line, script) for line in said if not CODE.match(line)]
     lines = [line + advice(line, *[*lines[i + 1 : i + 3], "", ""][:2], text or b"") for i, line in enumerate(lines)]
     lines = [line.replace(NO_EXTERNAL, lacking(text, tokens)) if line.startswith(script + NO_EXTERNAL) else line for line in lines]
     lines = [negated(line, tokens) for line in lines]
-    lines = [line + by_layout(line, text or b"", tokens) if line.startswith(script + ":") and OPEN.search(line) else line for line in lines]
+    lines = [line + by_layout(line, *(typed or (text or b"", tokens))) for line in lines]
     if (text or b"").startswith(BOM):
         lines = without_mark(lines, script)
     lines = [line if line.startswith(INDENT) else re.sub(r"\w{61,}", lambda name: short(name[0]), line) for line in map(named, lines)]
@@ -66,7 +68,7 @@ def advice(line: str, source: str, carets: str, text: bytes) -> str:
     word = [*source.split(), ""][0]
     if text and b"stringescapes" not in text and ": } can only be" in line:
         return ". A literal with {..} needs stringescapes {} above it"
-    if re.search(r"\w can only be in a literal", line) and source.count("'") % 2:
+    if re.search(r"[\w{] can only be in a literal", line) and source.count("'") % 2 and "missing quote" not in line:
         return ". Look for a missing quote before it, too"
     if " => is of Snowball" in line and re.search(r"\$\s*\w+\s*=>", source):
         return ". Did you mean >=?"
@@ -78,6 +80,12 @@ def advice(line: str, source: str, carets: str, text: bytes) -> str:
     if unknown and re.search(r"(\[\s*|<-\s*|<\+\s*)%s\b" % unknown[1], source):
         return " If letters are meant: '%s'." % short(unknown[1])
     return "." + meant(word, ITEMS) if " can only be in a literal" in line and word not in ITEMS and meant(word, ITEMS) else ""
+
+
+def without_following(found: Sequence[Any]) -> List[Any]:
+    """Returns the rows of `faults` without those of modes, if these only follow from a misspelt `backwards`."""
+    is_misspelt = any("Did you mean backwards?" in row.sentence for row in found)
+    return [row for row in found if not is_misspelt or row.name != "WrongMode"]
 
 
 def needs_tokens(said: Sequence[str]) -> bool:
@@ -103,7 +111,10 @@ def negated(line: str, tokens: Sequence[Token]) -> str:
 def by_layout(line: str, text: bytes, tokens: Sequence[Token]) -> str:
     """Returns which bracket lacks its end, perhaps: the first one that is closed by one which begins a line and is farther left than the line of
     that bracket. The program names one that is open at the end, and looks at no layout."""
-    begin, end = (tuple(map(int, found)) for found in (*OPEN.findall(line), *re.findall(r":(\d+):(\d+): ", line)[:1]))
+    found = OPEN.search(line)
+    if not found or line.startswith(INDENT):
+        return ""
+    end, begin = (tuple(map(int, place)) for place in ((found[1], found[2]), (found[3], found[4])))
     opened: List[Tuple[int, int, int]] = []
     for token in (token for token in tokens if token.kind != "comment" and token.text in ("(", ")")):
         place, before = line_and_column(text, token.start), text[: token.start].rpartition(b"\n")[2]

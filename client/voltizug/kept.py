@@ -39,9 +39,12 @@ class Kept:
         `added` has the words that were added, `block` the lines of a block that is open. Without lines that is forgotten."""
         self.keep(name, "\n".join([self.script, *lines]).encode("utf-8", "surrogateescape") if lines else b"")
 
-    def keep(self, file: str, text: bytes) -> None:
-        with contextlib.suppress(OSError), open(os.path.join(self.room, file), "wb") as kept:
-            kept.write(text)
+    def keep(self, name: str, text: bytes) -> str:
+        """Writes a file of the room. Returns its path."""
+        path = os.path.join(self.room, name)
+        with contextlib.suppress(OSError), open(path, "wb") as file:
+            file.write(text)
+        return path
 
     def has(self, *names: str) -> bool:
         return any(read_file(os.path.join(self.room, name)) for name in names)

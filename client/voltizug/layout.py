@@ -159,10 +159,14 @@ def families_line(pairs: Tuple[Any, ...]) -> str:
     """Returns the figures of the families before and after an edit."""
     if not pairs:
         return ""
-    parts, (before, now) = [], pairs
+    parts, now = [], pairs[1]
+    if now.within == now.across == "0":
+        return "families: no two of their words have a stem"
     for what, part, whole in (("understemmed", "apart", "within"), ("overstemmed", "joined", "across")):
-        old, new, all_ = int(getattr(before, part)), int(getattr(now, part)), int(getattr(now, whole))
-        parts.append("%s %s{:,} of {:,} pairs%s".format(new, all_) % (what, "" if old == new else "{:,} -> ".format(old), percent(new, all_)))
+        (old, new), (all_old, all_) = ([int(getattr(row, name)) for row in pairs] for name in (part, whole))
+        # (a word that is refused has no pair)
+        first = "{:,} of {:,} -> ".format(old, all_old) if all_old != all_ else "{:,} -> ".format(old) if old != new else ""
+        parts.append("%s %s{:,} of {:,} pairs%s".format(new, all_) % (what, first, percent(new, all_)))
     return "families: " + ", ".join(parts)
 
 

@@ -2,8 +2,8 @@
 import re
 import unicodedata
 from collections import Counter
-from itertools import dropwhile, takewhile
-from typing import Dict, Iterable, List, Sequence, Set, Tuple
+from itertools import accumulate, dropwhile, takewhile
+from typing import Any, Dict, Iterable, List, Sequence, Set, Tuple
 
 from .bench import Bench
 from .conditions import BODY
@@ -14,6 +14,8 @@ from .rows import Outcome, Token
 
 # (of few words most letters are missing)
 MOST, FEW, MANY = 5, 50, 5000
+# From this length on the letters of a macro count, and not their order.
+LONG = 100
 # A literal after one of these is put into the text.
 PUTTING = ("<-", "<+", "insert", "attach", "=", "+=", "=>")
 # What the token after an empty slice says.
@@ -22,9 +24,12 @@ EMPTY = {"among": "[substring] is meant, perhaps", "<-": "it has no character to
 SURE, NOT_SURE = ("do", "try", "repeat"), ("not", "fail", "for", "and")
 # A routine after one of these may fail.
 GOVERNING = (*SURE, *NOT_SURE, "test", "or", "goto", "gopast", "non", "loop", "atleast")
+# They ask what the command after them signals.
+TESTING = ("not", "fail", "test", "goto", "gopast")
 # They take the slice; a routine with one of these changes something, with one of those it moves the cursor.
 TAKING = ("delete", "<-", "->")
 CHANGING, MOVING = (*TAKING[:2], "setmark"), ("gopast", "goto", "next", "hop")
+CHANGING_TEXT = (*TAKING[:2], "<+", "insert", "attach")
 # They may fail. These do not, and what follows them may be a call.
 FAILING = {*MOVING, *"among substring tomark atmark atlimit false fail not non == != < <= > >=".split()}
 PASSING = ("(", "[", "backwards", "test", *SURE)
@@ -36,7 +41,8 @@ def lints(bench: Bench, has_all: bool = False) -> List[str]:
         return ["%s has more than {:,} bytes, and is not looked at".format(LARGEST) % named(bench.script)] if has_all else []
     places, outcomes = bench.places(), bench.outcomes() if has_all or bench.size <= MANY else []
     tokens = [token for token in places.tokens if token.kind != "comment"]
-    found = [*misused(tokens), *unset_slices(places), *bare_commands(places, tokens), *plain_braces(tokens), *late_takings(places)]
+    found = [*misused(tokens), *unset_slices(places), *bare_commands(places, tokens), *plain_braces(tokens), *late_takings(places), *half_done(places)]
+    found += [*idle_amongs(places), *unset_integers(places), *undefined(places)]
     found += stopping_calls(places, bench, [start for start, _ in found]) if has_all or bench.size <= MANY else []
     found += strange_strings(places, outcomes, tokens) if has_all or bench.size >= FEW else []
     found += wrong_ways(places, bench, outcomes) if outcomes and places.entries else []
@@ -155,6 +161,28 @@ def callers(texts: Dict[str, Set[str]]) -> Dict[str, Set[str]]:
     return found
 
 
+def half_done(places: Places) -> Iterable[Tuple[int, str]]:
+    """The first command on the left of an `or`, or of a routine there, that changes the text, if what comes after it on the left may fail."""
+    bodies = {name: places.part(name)[BODY:] for name in places.of_kind("routine")}
+    doubtful = {*FAILING, *places.of_kind("grouping"), *may_fail(places)}
+    what = "if what comes after this {} fails, the text stays changed: the or puts back the cursor alone"
+    for side in (left_side(body, i, bodies) for body in bodies.values() for i, token in enumerate(body) if token.text == "or"):
+        depths = list(accumulate((token.text == "(") - (token.text == ")") for token in side))
+        at = next((i for i, token in enumerate(side) if token.text in CHANGING_TEXT and not depths[i]), len(side))
+        if any(token.kind == "literal" or token.text in doubtful for token in unsure(side[at:])):
+            yield side[at].start, what.format(side[at].text)
+
+
+def left_side(body: Sequence[Token], at: int, bodies: Dict[str, List[Token]]) -> Sequence[Token]:
+    """Returns the commands in the bracket, or in the routine, that is directly before an `or`; none if it never fails."""
+    depths = accumulate((token.text == ")") - (token.text == "(") for token in reversed(body[:at]))
+    begin = at - 1 - next((i for i, depth in enumerate(depths) if not depth), at - 1)
+    if begin and body[begin - 1].text in (*SURE, "among"):
+        return []
+    called = bodies.get(body[begin].text, [])
+    return body[begin + 1 : at - 1] if body[begin].text == "(" else called[1:-1] if called and end_of(called, 0) == len(called) else called
+
+
 def late_takings(places: Places) -> Iterable[Tuple[int, str]]:
     """A command that takes the slice directly after a routine that sets another one and takes that."""
     parts = {name: places.part(name)[BODY:] for name in places.of_kind("routine")}
@@ -186,6 +214,72 @@ def unset_slices(places: Places) -> Iterable[Tuple[int, str]]:
             yield token.start, what.format(name, in_words(lacking, "and no"), token.text)
 
 
+def idle_amongs(places: Places) -> Iterable[Tuple[int, str]]:
+    """An among without a command, if [substring] is before it, nothing after it or in what calls its routine takes the slice, and no call is a test."""
+    parts = {name: places.part(name)[BODY:] for name in places.of_kind("routine")}
+    texts = {name: {token.text for token in part} for name, part in parts.items()}
+    takers, ways = {name for name in those_with(TAKING, places) if "[" not in texts[name]}, callers(texts)
+    what = "no string here has a command, and nothing takes the slice of [substring]: (delete) after the strings is meant, perhaps"
+    for name, part in parts.items():
+        last = 0
+        for i, token in enumerate(part):
+            last = i if token.text == "substring" else last
+            if token.text == "among":
+                has_slice, end, last = last > 0 and part[last - 1].text + part[last + 1].text == "[]", end_of(part, i + 1), 0
+                if not has_slice or any(other.text == "(" for other in part[i + 2 : end]):
+                    continue
+                after = {other.text for other in part[end:]}.union(*(texts[other] for other in reached([name], ways) - {name}))
+                calls = (is_test(other, at) for other in parts.values() for at, call in enumerate(other) if call.text == name)
+                if after.isdisjoint((*TAKING, *takers)) and not any(calls):
+                    yield token.start, what
+
+
+def is_test(part: Sequence[Token], at: int) -> bool:
+    """Whether it may count what a call signals: no `do` is before it or before a bracket that it ends, and more comes after it."""
+    begin = end = at
+    while not begin or part[begin - 1].text not in SURE:
+        if begin and (part[begin - 1].kind == "literal" or part[begin - 1].text in TESTING):
+            return True
+        if end + 1 == len(part):
+            return False
+        if part[end + 1].text != ")":
+            return True
+        end += 1
+        begin = next(i for i in range(end, -1, -1) if part[i].text == "(" and end_of(part, i) == end + 1)
+    return False
+
+
+def unset_integers(places: Places) -> Iterable[Tuple[int, str]]:
+    """The first command of a run that has an integer which no command of a run sets."""
+    parts = {name: places.part(name)[BODY:] for name in places.of_kind("routine")}
+    kinds, setters = Names(places.tokens).kinds, {}  # type: Dict[str, str], Dict[str, Dict[str, bool]]
+    calls = {name: {token.text for token in part}.intersection(parts) for name, part in parts.items()}
+    running = reached([name for name in parts if kinds.get(name) == "external"], calls)
+    for name, part in parts.items():
+        for integer in set_in(part):
+            setters.setdefault(integer, {})[name] = name in running
+    first = {token.text: token for name in reversed(list(parts)) if name in running for token in reversed(parts[name])}
+    for integer in [name for name, kind in kinds.items() if kind == "integer" and name in first]:
+        others = setters.get(integer, {})
+        if not any(others.values()):
+            why = "no run comes to %s, which sets it" % in_words(list(others), "or") if others else "no command sets it"
+            yield first[integer].start, "%s is 0 in each run: %s" % (short(integer), why)
+
+
+def set_in(part: Sequence[Token]) -> Iterable[str]:
+    """The integers that commands of a body set."""
+    for before, token, after in zip(part, part[1:], [*part[2:], *part[:1]]):
+        if before.text == "setmark" or before.text == "$" and after.text in ("=", "+=", "-=", "*=", "/="):
+            yield token.text
+
+
+def undefined(places: Places) -> Iterable[Tuple[int, str]]:
+    """The declarations of routines and groupings that have no definition."""
+    names = Names(places.tokens)
+    for name in [name for name, kind in names.kinds.items() if kind in ("external", "routine", "grouping") and name not in names.items]:
+        yield names.declared[name].start, "%s is declared, but not defined" % short(name)
+
+
 def reached(names: Sequence[str], ways: Dict[str, Set[str]]) -> Set[str]:
     """Returns names and all to which ways lead from them."""
     found, queue = set(names), list(names)
@@ -207,15 +301,41 @@ def end_of(tokens: Sequence[Token], at: int) -> int:
 
 
 def strange_strings(places: Places, outcomes: Sequence[Outcome], tokens: Sequence[Token]) -> Iterable[Tuple[int, str]]:
-    """The strings of amongs with a letter that no word has and no command puts in. (If what is put in may have macros, none is looked at.)"""
-    put = "".join(token.text for before, token in zip(tokens, tokens[1:]) if token.kind == "literal" and before.text in PUTTING)
-    if not outcomes or set(put) & set("".join(token.text for token in tokens if token.kind == "inserts")):
+    """The strings of amongs with a letter that no word has and no command puts in."""
+    if not outcomes:
         return
-    there: Set[str] = set(put).union(*(row.word + row.stem * (row.kind == "stem") for row in outcomes))
+    there: Set[str] = set().union(*put_in(tokens), *(row.word + row.stem * (row.kind == "stem") for row in outcomes))
     for (_, _, string), row in places.entries.items():
         strange = " ".join(sorted(set(string) - there))
         if strange:
             yield int(row.start), "'%s' has %s, which no word has and no command puts in" % (short(string), short(strange))
+
+
+def put_in(tokens: Sequence[Token]) -> Iterable[str]:
+    """The values of the literals that commands put into the text."""
+    signs, macros = "", {}  # type: str, Dict[str, str]
+    for i, token in enumerate(tokens):
+        signs = token.text if token.kind == "inserts" else signs
+        if token.kind != "literal":
+            continue
+        value = inserted(token.text[1:-1], signs, macros)
+        first, second, last = ["", "", "", *(token.text for token in tokens[max(0, i - 3) : i])][-3:]
+        if "stringdef" in (first, second):
+            base = 0 if second == "stringdef" else 16 if last == "hex" else 10
+            value = "".join(chr(min(int(code, base), 0x10FFFF)) for code in value.split()) if base else value
+            # (macros of macros may be long: then the letters are enough)
+            macros[second if base else last] = value if len(value) < LONG else "".join(set(value))
+        elif last in PUTTING:
+            yield value
+
+
+def inserted(text: str, signs: str, macros: Dict[str, str]) -> str:
+    """Returns a literal with what its insertions stand for: a macro, a character by its code, a quote or the first sign itself."""
+    def value(found: Any) -> str:
+        name = found[1]
+        return macros[name] if name in macros else chr(int(name[2:], 16)) if name.startswith("U+") else name.strip()
+
+    return re.sub("%s(.*?)%s" % (re.escape(signs[0]), re.escape(signs[1])), value, text, flags=re.S) if signs else text
 
 
 def wrong_ways(places: Places, bench: Bench, outcomes: Sequence[Outcome]) -> Iterable[Tuple[int, str]]:

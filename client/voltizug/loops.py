@@ -2,9 +2,9 @@
 from typing import Any, List, NamedTuple, Optional, Sequence, Tuple
 
 from .bench import Bench
-from .layout import in_words
+from .layout import in_words, short
 from .places import GROWING, TURNING
-from .words import in_quotes
+from .words import REFUSALS, in_quotes
 
 # The refusals of which a place may be known.
 NAMES = ("Steps", "Depth", "TooLong")
@@ -78,3 +78,15 @@ def turning(word: str, events: Sequence[Any], bench: Bench) -> str:
     if len(spots) == 1:
         return "In the run of %s %s%s in %s goes round%s." % (word, spots[0], "," * bool(places.note), name, does)
     return "In the run of %s %s goes round%s.%s" % (word, name, does, " It is %s." % in_words(spots, "or") if spots else "")
+
+
+def ending(word: str, events: Sequence[Any], bench: Bench) -> str:
+    """Returns the sentence on where the run of a word is refused, and why; nothing if that is not known."""
+    calls = []  # type: List[str]
+    for row in events:
+        calls += [row.name] if row.kind == "call" else []
+        del calls[len(calls) - (row.kind == "return") :]
+    why = REFUSALS.get(events[-1][1], "").partition(". ")[0] if events and events[-1].kind == "refused" else ""
+    at = bench.places().of(calls[-1]) if calls else ""
+    where = "%s%s" % (calls[-1], " (%s)" % at if at else "") if calls else "its beginning"
+    return 'The run of %s ends in %s: %s. "why %s" says more.' % (in_quotes(word), where, why, short(word)) if why else ""

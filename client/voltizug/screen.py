@@ -69,19 +69,15 @@ class Screen:
         return True
 
 
-def to_file(path: str, lines: Sequence[str], is_again: bool = False) -> bool:
-    """Writes a report to a new file, or in the place of one that is there; returns whether it did. If that fails, a file has its former text."""
-    target, text = os.path.realpath(path), "".join(line + "\n" for line in lines).encode("utf-8", "surrogateescape")
-    with contextlib.suppress(OSError):
-        if not is_again:
-            with open(path, "xb") as file:
-                file.write(text)
-            return True
-        with tempfile.TemporaryDirectory(dir=os.path.dirname(target)) as room:
-            new = os.path.join(room, "new")
-            with open(new, "xb") as file:
-                file.write(text)
+def to_file(path: str, lines: Sequence[str]) -> bool:
+    """Writes a report to a file; returns whether it did. If that fails, a file that is there has its former text."""
+    target = os.path.realpath(path)
+    with contextlib.suppress(OSError), tempfile.TemporaryDirectory(dir=os.path.dirname(target)) as room:
+        new = os.path.join(room, "new")
+        with open(new, "wb") as file:
+            file.write("".join(line + "\n" for line in lines).encode("utf-8", "surrogateescape"))
+        if os.path.exists(target):
             shutil.copymode(target, new)
-            os.replace(new, target)
+        os.replace(new, target)
         return True
     return False

@@ -100,14 +100,9 @@ class Terminal(Desk):
 
     def keep_report(self, line: str, path: str, shown: Sequence[str]) -> None:
         """Writes a report to a file; to one that is there only if the line is typed again."""
-        may_be = os.path.isfile(path) and os.access(path, os.W_OK)
-        is_own = any(kept.is_same(path, own) for own in (self.bench.script, self.bench.words))
-        is_again, self.doubted = self.doubted == line and may_be and not is_own, line
-        if screen.to_file(path, shown, is_again):
-            self.doubted = ""
-            self.screen.say("%s in %s" % (counted(len(shown), "line"), short(path)))
-        else:
-            self.screen.say(words.not_written(line.partition(" ")[0], path, self.bench, is_again))
+        if self.may_write(line, path):
+            why = "" if screen.to_file(path, shown) else words.not_written(line.partition(" ")[0], path, self.bench)
+            self.screen.say(why or "%s in %s" % (counted(len(shown), "line"), short(path)))
 
     # Replies that are shown with more than their rows
 
@@ -198,12 +193,9 @@ class Terminal(Desk):
             self.screen.say("Nothing was added: %s is no answer to this." % words.in_quotes(reply, True))
 
     def write(self, command: str, path: str) -> None:
-        """Has the script or the stems written to a file. What is only doubtful is done if it is typed again."""
+        """Has the script or the stems written to a file."""
         line, name = "%s %s" % (command, path), short(path)
-        why = self.bench.may_write(command, path) if path else ""
-        if why and not (why.endswith("?") and self.doubted == line):
-            self.doubted = line
-            self.screen.say(words.may_not(why, command, path, "" if self.options.is_watching else " and press Enter"))
+        if path and not self.may_write(line, path):
             return
         stems, comments, reply = kept.read_lines(path), self.comments(path), self.bench.write(command, path)
         if command == "save" and reply.state != DONE and kept.read_file(path) == self.bench.program.now.text:
@@ -217,6 +209,16 @@ class Terminal(Desk):
             # (of the parts that were typed, or of a change of SCRIPT that undo took back)
             self.screen.say("saved in %s" % name, "%s no longer in %s." % (counted(lost, "comment is", "comments are"), name) if lost > 0 else "")
 
+    def may_write(self, line: str, path: str) -> bool:
+        """Whether a command may write to a file; otherwise says why not. What is only doubtful is done if the line is typed again."""
+        command, is_again, self.doubted = line.partition(" ")[0], self.doubted == line, line
+        why = self.bench.may_write(command, path)
+        if not why or why.endswith("?") and is_again:
+            self.doubted = ""
+            return True
+        self.screen.say(words.may_not(why, command, path, "" if self.options.is_watching else " and press Enter"))
+        return False
+
     def comments(self, path: str) -> int:
         lines = self.bench.known("tokens " + path) if os.path.isfile(path) else None
         return sum(token.kind == "comment" for token in rows.tokens(lines or []))
@@ -224,9 +226,9 @@ class Terminal(Desk):
     def do_append(self, path: str) -> None:
         path = path.strip() or self.bench.words or ""
         before = len(kept.read_lines(path))
-        if path and path == self.bench.words and not os.path.lexists(path):
-            self.screen.say(words.may_not("gone", "append", path))
-        elif self.is_done(self.bench.ask("append " + path if path != self.bench.words else "append"), "append " + path):
+        if path and not self.may_write("append " + path, path):
+            return
+        if self.is_done(self.bench.ask("append " + path if path != self.bench.words else "append"), "append " + path):
             self.screen.say("%s now at the end of %s." % (counted(len(kept.read_lines(path)) - before, "word is", "words are"), short(path)))
 
     def do_words(self, _: str) -> None:

@@ -7,7 +7,7 @@ import tempfile
 from typing import Callable, Dict, Sequence
 
 from .bench import Bench, Stage
-from .commands import COMMANDS, NAMED, OPEN_BLOCKS, REPORTING, STRANGE
+from .commands import COMMANDS, NAMED, OPEN_BLOCKS, STRANGE
 from .kept import is_same, read_file, read_lines
 from .layout import counted, in_words, named, short
 from .near import folded, meant, near
@@ -44,6 +44,7 @@ MAY_NOT: Dict[str, str] = {
     "undone?": "{path} has a change that undo took back. Nothing was written: Enter reads it again, save {path} again overwrites it.",
     "no words": "{path} is there already, and append puts words only into the file of words or a new file.",
     "gone": "{path} is not there any more, and was not written: {other}.",
+    "gone?": "{path} is not there any more (deleted or renamed). Nothing was written: save {path} again writes it anew.",
     "no folder": "{path} cannot be written: there is no folder {folder}.",
     "folder": "{path} cannot be written: it is a folder. Name a file in it.",
     "closed": "{path} cannot be written: you may not write there. {Other}.",
@@ -221,24 +222,17 @@ def bad_file(line: str, bench: Stage) -> str:
     return "%s cannot be read: %s" % (short(path), why)
 
 
-def not_written(command: str, path: str, bench: Stage, is_again: bool = False) -> str:
-    """Why `save`, `approve`, `append` or a report could not write to a file. One that is there has a report only if that is asked for again."""
+def not_written(command: str, path: str, bench: Stage) -> str:
+    """Why `save`, `approve`, `append` or a report, which may write to a file, could not."""
     if command == "append" and not path and not bench.words:
         return "There is no file of words: append FILE writes a new one."
     path = path or (bench.words or "" if command == "append" else "")
     if not path:
         return "%s needs a file: %s%s." % (command, COMMANDS[command].usage, ", such as save " + short(bench.script) if command == "save" else "")
-    folder, is_script, is_there = os.path.dirname(path) or ".", is_same(path, bench.script), os.path.exists(path)
-    is_list = is_same(path, bench.words)
-    return may_not(next(key for is_so, key in (
-        (command != "append" and is_list, "words"), (command != "save" and is_script, "script"),
-        (command == "append" and is_there and not is_list, "no words"),
-        (os.path.realpath(path) == os.path.realpath(bench.script) and not os.path.lexists(path), "gone"),
-        (not os.path.isdir(folder), "no folder"), (os.path.isdir(path), "folder"),
-        (not os.access(path if is_there else folder, os.W_OK), "closed"),
-        (command in REPORTING and is_there and not is_again, "again?" if os.path.isfile(path) else "there"),
-        (path in bench.saved() or is_script, "changed"), (is_there, "full, there"), (True, "full"),
-    ) if is_so), command, path)
+    if command == "append" and os.path.exists(path) and not is_same(path, bench.words):
+        return may_not("no words", command, path)
+    is_changed = path in bench.saved() or is_same(path, bench.script)
+    return may_not("changed" if is_changed else "full, there" if os.path.exists(path) else "full", command, path)
 
 
 def no_room(folder: str) -> str:

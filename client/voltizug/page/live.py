@@ -28,6 +28,7 @@ PERIOD, QUIET = 0.008, 0.3
 KEPT, MOST_RULES = 64, 500
 MAY_NOT = {
     "changed": "{} was changed since it was read. Nothing was written.",
+    "gone?": "{} is not there any more. Nothing was written. If you save again, it is written anew.",
     "refused?": "{} has a text that was refused. Nothing was written. If you save again, it is overwritten.",
     "undone?": "{} has what undo took back. Nothing was written. If you save again, it is overwritten.",
 }

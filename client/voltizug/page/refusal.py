@@ -15,7 +15,7 @@ MOST = 200
 def refusal(bench: Bench, said: Sequence[str], typed: Optional[str] = None) -> Dict[str, Any]:
     """Returns what is shown. The text is that of the file if none was typed."""
     script, data = bench.script, read_file(bench.script) or b""
-    tokens = bench.file_tokens(not bench.is_waiting) if typed is None and faults.needs_tokens(said) else []
+    tokens = bench.tokens_of(script) if typed is None and faults.needs_tokens(said) else []
     lines = faults.shown(said, script, data if typed is None else None, 1 << 20, tokens) or [named(line) for line in said]
     place = faults.place_of(lines, named(script), "replace")
     # (a fault of the words has no place in the script)
@@ -34,6 +34,6 @@ def all_faults(bench: Bench, text: bytes) -> List[List[Any]]:
     """Returns the faults of the text that was refused last, if the program tells them: line, begin and end in the text that is shown, sentence."""
     if bench.is_waiting:
         return []
-    found = [row for row in bench.read("faults") if row.end and int(row.end) <= len(text)][:MOST]
+    found = [row for row in faults.without_following(bench.read("faults")) if row.end and int(row.end) <= len(text)][:MOST]
     at = ink.units(text, (int(place) for row in found for place in (row.start, row.end)))
     return [[int(row.line), at[int(row.start)], at[int(row.end)], row.sentence] for row in found]

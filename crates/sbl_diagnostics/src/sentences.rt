@@ -6,7 +6,7 @@ use crate::definitions::{push_no_definition, push_undefined, push_wrong_mode};
 use crate::encodings::push_conversion;
 use crate::expectations::{push_expectation, push_use};
 use crate::foreign::{advice_on, foreign_character, is_end_line, left_out_text};
-use crate::near::{push_listed, push_near, push_near_reserved, push_near_word};
+use crate::near::{nearest_of, push_listed, push_near_word};
 use crate::reasons::{begins_sentence, reason};
 use crate::sites::{Site, push_advice};
 use crate::undeclared::push_undeclared;
@@ -321,7 +321,8 @@ pub(crate) fn push_external(
     shown.push_str(". It has ")?;
     push_listed(shown, &there, " and ")?;
     shown.push_str(": use --external ")?;
-    push_cut(shown, first)
+    let near = nearest_of(alloc, wanted, &there)?;
+    push_cut(shown, near.unwrap_or(*first))
 }
 
 /// Appends that a byte is not UTF-8.
@@ -340,6 +341,15 @@ fn is_insert_fault(character: char) -> bool {
     matches!(character, '\t'..='\r' | ' ' | '\'' | '\u{FEFF}')
 }
 
+/// Returns whether a quote is before an offset, and between them no white space.
+fn follows_quote(text: &[u8], offset: usize) -> bool {
+    let mut follows = false;
+    for byte in text.get(..offset).unwrap_or(text) {
+        follows = *byte == b'\'' || (follows && !byte.is_ascii_whitespace());
+    }
+    follows
+}
+
 /// Appends what is wrong with a character that begins no token.
 fn push_character(shown: &mut String, place: Place<'_>) -> Result<(), AllocError> {
     let Place { faulty, spot } = place;
@@ -356,6 +366,8 @@ fn push_character(shown: &mut String, place: Place<'_>) -> Result<(), AllocError
     shown.push_str(" can only be in a literal or a comment")?;
     let advice = if is_end_line(faulty.text, spot.begin) {
         Some("The line that ends a text has a point and no blank after it")
+    } else if character == '{' && follows_quote(faulty.text, spot.begin) {
+        Some("If a literal is meant, look for a missing quote before it")
     } else if character > '\u{7F}' && matches!(faulty.part, Some(Part::Grouping(_))) {
         Some("Characters are in quotes")
     } else {

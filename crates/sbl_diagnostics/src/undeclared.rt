@@ -5,7 +5,7 @@ use crate::declarations::{DeclaredName, declaration_of, names_of};
 use crate::definitions::is_at_terms;
 use crate::foreign::advice_on;
 use crate::grammar::is_operator;
-use crate::near::{push_near, push_near_reserved};
+use crate::near::{push_near, push_near_command};
 use crate::sentences::{Faulty, Place, tokens_before};
 use sbl_script::Part;
 use sbl_text::{Kind, Sign, Token, Word};
@@ -234,8 +234,8 @@ fn push_way_out(
         shown.push_str(" ")?;
         return shown.push_str(advice);
     }
-    if need.usage == Usage::Command && push_near_reserved(alloc, shown, name)? {
-        return Ok(());
+    if need.usage == Usage::Command && push_near_command(alloc, shown, name)? {
+        return push_declaration(alloc, shown, place, need, " If not, declare", ".");
     }
     push_declaration(
         alloc,
