@@ -180,6 +180,10 @@ reply_keeps command.Hello s d text t e (shown, bench, desk) = same d e desk
 
 pub keeps_leave : RequestsKeepLeave
 keeps_leave [] s d [] [] t e (bench, desk) = same d e desk
+keeps_leave [] s d [] (reply ∷ replies) t e none = elim none [ ]
+keeps_leave [] s d (request ∷ requests) replies t e none = elim none [ ]
+keeps_leave (choice ∷ choices) s d [] replies t e none = elim none [ ]
+keeps_leave (choice ∷ choices) s d (request ∷ requests) [] t e none = elim none [ ]
 keeps_leave (choice ∷ choices) s d (request ∷ requests) (reply ∷ replies) t e (next, is, rest) =
     keeps_leave choices next choice.desk requests replies t e rest
     ∙ reply_keeps (by_work_block choice.file request.line request.block) s d reply next choice.desk is

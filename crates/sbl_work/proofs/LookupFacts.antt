@@ -17,6 +17,7 @@ use Rattle.sbl_sessions.specs.Commands.{Bad}
 use Rattle.sbl_sessions.specs.Numbers.{number_in}
 use Rattle.sbl_sessions.specs.Words.{argument, command_word}
 use Rattle.sbl_sessions.specs.declared.replies.Reply.{Reply}
+use Rattle.sbl_work.proofs.ReplyFacts.{session_reply}
 use Rattle.sbl_history.specs.Desks.{State}
 use Rattle.sbl_work.specs.Commands.{Find, Session, Uses, WorkCommand, find_command, uses_command}
 use Rattle.sbl_work.specs.Questions.{among_question, has_space, named_question}
@@ -34,7 +35,7 @@ fault_told view wanted fault.OutOfMemory r is shown = inr shown
 -- the line is bad
 pub bad_told : (s : Contents) (d : State) (command : WorkCommand) (r : Reply) → command ≡ Session Bad → IsReply r (with_line_feed (codes "no 52 BadCommand")) → IsWorkAnswer s d command r s d
 bad_told s d command r is shown =
-    subst (λ (c : WorkCommand). IsWorkAnswer s d c r s d) (sym is) (with_line_feed (codes "no 52 BadCommand"), shown, (inl (Enough, (refl, refl)), inl (refl, refl)))
+    subst (λ (c : WorkCommand). IsWorkAnswer s d c r s d) (sym is) (with_line_feed (codes "no 52 BadCommand"), shown, (session_reply d.may_break Bad s s (with_line_feed (codes "no 52 BadCommand")) (Enough, (refl, refl)), inl (refl, refl)))
 
 -- a report is made, or an allocation for it fails
 pub report_told : (wanted : List ℕ) (text : Result (Vec ℕ Global) AllocError) (r : Reply) → IfOk text (λ made. IsReply r made.items) → OnErr text (IsReply r (edit_text (Some edit.OutOfMemory)))

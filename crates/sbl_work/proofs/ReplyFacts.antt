@@ -7,13 +7,14 @@ use Rattle.std.specs.declared.alloc.Global.{Global}
 use Rattle.std.proofs.lemmas.Str.{IsUtf8-from_is_utf8, is_utf8-from_IsUtf8}
 use Rattle.std.specs.Str.{IsUtf8, bytes_eq, is_utf8}
 use Rattle.sbl_bench.specs.Contents.{Contents}
-use Rattle.sbl_bench.specs.Edits.{Edits, Whole}
+use Rattle.sbl_bench.specs.Edits.{Edit, Edits, Whole}
 use Rattle.sbl_bench.specs.declared.fault.EditFault.{EditFault}
 use Rattle.sbl_bench.specs.declared.fault.EditFault.TheVariants as fault
 use Rattle.sbl_script.specs.Edits.{ScriptEdit}
 use Rattle.sbl_sessions.specs.Answers.{BlockRefused, Enough, edit_text, with_line_feed}
 use Rattle.sbl_reports.specs.Block.{made_text, max_script}
-use Rattle.sbl_sessions.specs.CommandViews.{IsAnswerOrBreak, IsReply}
+use Rattle.sbl_sessions.specs.CommandViews.{IsAnswerOrBreak, IsReply, IsTextAnswer}
+use Rattle.sbl_sessions.specs.Commands as session
 use Rattle.sbl_sessions.specs.Commands.{Command, target_of, text_of_block}
 use Rattle.sbl_sessions.specs.EditFaults.{fault_in}
 use Rattle.sbl_sessions.specs.declared.replies.Reply.{Reply}
@@ -26,7 +27,8 @@ use Rattle.sbl_history.specs.Refused.{RefusedText, LongText, PartText, WholeText
 use Rattle.sbl_work.specs.FaultReplies.{kept_after, refused_part, refused_whole}
 use Rattle.sbl_history.specs.Editing.{IsLimitNoted, Replaces}
 use Rattle.sbl_history.specs.History.{OfScript}
-use Rattle.sbl_work.specs.Replies.{IsWorkReply, ReplacesKept, TellsReport, not_text_text, rows_or_fault}
+use Rattle.sbl_history.specs.MayBreak.{EditsOrBreaksIf}
+use Rattle.sbl_work.specs.Replies.{IsSessionReply, IsWorkReply, ReplacesKept, TellsReport, not_text_text, rows_or_fault}
 use Rattle.sbl_work.specs.ReplyViews.{IsFamiliesAnswer, IsFileAnswer, IsKeptPart, IsPartResult, IsSessionAnswer, IsTextResult, IsWorkAnswer, NamesText}
 use Rattle.sbl_history.proofs.Refusing.{nothing_tried}
 
@@ -35,6 +37,11 @@ use Rattle.sbl_history.proofs.Refusing.{nothing_tried}
 -- the reply to one command is that to another name of it
 pub same_command : (s t : Contents) (d e : State) (a b : WorkCommand) (r : Reply) → a ≡ b → IsWorkAnswer s d a r t e → IsWorkAnswer s d b r t e
 same_command s t d e a b r is answer = subst (λ (x : WorkCommand). IsWorkAnswer s d x r t e) is answer
+
+-- the session's reply to a command, whether or not it may be broken off
+pub session_reply : (m : Bool) (k : Command) (s t : Contents) (text : List ℕ) → IsTextAnswer s k text t → IsSessionReply m k s text t
+session_reply true k s t text is = inl is
+session_reply false k s t text is = is
 
 -- a command of a session that may be broken off
 pub session_or_break : (s t : Contents) (k : Command) (r : Reply) (said said_now : Bool) → IsAnswerOrBreak said said_now s k r t → IsSessionAnswer true s k r t
@@ -80,11 +87,23 @@ rows_told (Some f) expected (Err g) r is refused memory shown =
 too_long : (s : Contents) (bytes : List ℕ) → max_script < length bytes → Edits (Err (fault.Script script.ScriptTooLong)) s (Whole bytes) s
 too_long s bytes long = (inl (script.ScriptTooLong, inl (inl (long, refl)), refl), refl)
 
+-- an edit that is refused for its text is refused whether or not it may be broken off
+plain_script : (m : Bool) (f : ScriptFault) (s t : Contents) (e : Edit) → Edits (Err (fault.Script f)) s e t → EditsOrBreaksIf m (Err (fault.Script f)) s e t
+plain_script true f s t e is = is
+plain_script false f s t e is = is
+
+-- the same of one that is refused for memory
+plain_memory : (m : Bool) (s t : Contents) (e : Edit) → Edits (Err fault.OutOfMemory) s e t → EditsOrBreaksIf m (Err fault.OutOfMemory) s e t
+plain_memory true s t e is = is
+plain_memory false s t e is = is
+
 -- the block has no text
 pub whole_refused : (s : Contents) (d : State) (bytes : List ℕ) (f : EditFault) → ((f ≡ fault.Script script.ScriptTooLong) × (max_script < length bytes)) ⊎ (f ≡ fault.OutOfMemory)
     → Replaces (Err f) OfScript (Whole bytes) (Some bytes) s d s d
-whole_refused s d bytes f (inl long) = subst (λ (g : EditFault). Replaces (Err g) OfScript (Whole bytes) (Some bytes) s d s d) (sym long.0) (too_long s bytes long.1, refl)
-whole_refused s d bytes f (inr memory) = subst (λ (g : EditFault). Replaces (Err g) OfScript (Whole bytes) (Some bytes) s d s d) (sym memory) (nothing_tried s bytes, refl)
+whole_refused s d bytes f (inl long) = subst (λ (g : EditFault). Replaces (Err g) OfScript (Whole bytes) (Some bytes) s d s d) (sym long.0)
+    (plain_script d.may_break script.ScriptTooLong s s (Whole bytes) (too_long s bytes long.1), refl)
+whole_refused s d bytes f (inr memory) = subst (λ (g : EditFault). Replaces (Err g) OfScript (Whole bytes) (Some bytes) s d s d) (sym memory)
+    (plain_memory d.may_break s s (Whole bytes) (nothing_tried s bytes), refl)
 
 -- memory for the file of the script is refused
 pub reload_memory : (s : Contents) (d : State) (line : List ℕ) (r : Reply) → command.EditWhole [] ≡ alone_command (Some []) line → IsReply r (edit_text (Some fault.OutOfMemory)) → IsFileAnswer s d line r s d
@@ -131,7 +150,7 @@ pub part_bad : (s : Contents) (d : State) (line : List ℕ) (lines : List (List 
     → IsWorkAnswer s d (part_command (target_of line) (made_text lines) (text_of_block lines)) r s d
 part_bad s d line lines r none shown =
     same_command s s d d (part_command None (made_text lines) (text_of_block lines)) (part_command (target_of line) (made_text lines) (text_of_block lines)) r (ap (λ (o : Option ScriptEdit). part_command o (made_text lines) (text_of_block lines)) (sym none))
-    (with_line_feed (codes "no 52 BadCommand"), shown, (inl (Enough, (refl, refl)), inl (refl, refl)))
+    (with_line_feed (codes "no 52 BadCommand"), shown, (session_reply d.may_break session.Bad s s (with_line_feed (codes "no 52 BadCommand")) (Enough, (refl, refl)), inl (refl, refl)))
 
 -- an allocation for the line failed
 pub part_unkept : (s : Contents) (d : State) (line : List ℕ) (lines : List (List ℕ)) (r : Reply) → is_some (target_of line) ≡ true → IsReply r (edit_text (Some fault.OutOfMemory))
@@ -285,14 +304,19 @@ pub families_refused : (s : Contents) (d : State) (lines : List (List ℕ)) (f :
 families_refused s d lines f r (inl long) shown =
     let test : nat_lt max_script (length (made_text lines)) ≡ true = grind (arith, nat_tests) in
     let text : IsReply r (edit_text (Some (fault.Script script.ScriptTooLong))) = subst (λ (g : EditFault). IsReply r (edit_text (Some g))) long.0 shown in
-    rw test (edit_text (Some (fault.Script script.ScriptTooLong)), text, (inl (Enough, (refl, refl)), inl (refl, refl)))
+    let long_text = edit_text (Some (fault.Script script.ScriptTooLong)) in
+    rw test (long_text, text, (session_reply d.may_break (session.HasNoText script.ScriptTooLong) s s long_text (Enough, (refl, refl)), inl (refl, refl)))
 families_refused s d lines f r (inr memory) shown = by (nat_lt max_script (length (made_text lines))) refl
   where
     text : IsReply r (edit_text (Some fault.OutOfMemory))
     text = subst (λ (g : EditFault). IsReply r (edit_text (Some g))) memory shown
 
     by : (b : Bool) → nat_lt max_script (length (made_text lines)) ≡ b → IsWorkAnswer s d (families_command lines) r s d
-    by true is = rw is (edit_text (Some fault.OutOfMemory), text, (inl (BlockRefused, (refl, refl)), inl (refl, refl)))
+    by true is = rw is (
+      edit_text (Some fault.OutOfMemory),
+      text,
+      (session_reply d.may_break (session.HasNoText script.ScriptTooLong) s s (edit_text (Some fault.OutOfMemory)) (BlockRefused, (refl, refl)), inl (refl, refl)),
+    )
     by false is = rw is (edit_text (Some fault.OutOfMemory), text, inr (refl, refl, refl))
 
 -- ---- a line with its block
