@@ -211,13 +211,13 @@ class Terminal(Desk):
 
     def may_write(self, line: str, path: str) -> bool:
         """Whether a command may write to a file; otherwise says why not. What is only doubtful is done if the line is typed again."""
-        command, is_again, self.doubted = line.partition(" ")[0], self.doubted == line, line
+        command = line.partition(" ")[0]
         why = self.bench.may_write(command, path)
-        if not why or why.endswith("?") and is_again:
-            self.doubted = ""
-            return True
-        self.screen.say(words.may_not(why, command, path, "" if self.options.is_watching else " and press Enter"))
-        return False
+        said = words.may_not(why, command, path, "" if self.options.is_watching else " and press Enter") if why else ""
+        if why and not why.endswith("?"):
+            self.screen.say(said)
+            return False
+        return self.is_sure(line, said)
 
     def comments(self, path: str) -> int:
         lines = self.bench.known("tokens " + path) if os.path.isfile(path) else None
@@ -233,10 +233,7 @@ class Terminal(Desk):
 
     def do_words(self, _: str) -> None:
         before, doubt = self.bench.by_word(), self.unkept_words(", words again drops {}") if self.bench.words else ""
-        if doubt and self.doubted != "words":
-            self.doubted = "words"
-            self.screen.say(doubt)
-        elif self.is_done(self.bench.ask("words"), "words"):
+        if self.is_sure("words", doubt) and self.is_done(self.bench.ask("words"), "words"):
             self.has_old_words = False
             self.warn(self.bench.words)
             now = self.bench.by_word()
@@ -330,16 +327,21 @@ class Terminal(Desk):
     def may_end(self) -> bool:
         """Whether `work` ends: the first time it does not if something would be lost."""
         bench = self.bench
-        if self.doubted == "quit" or bench.is_waiting:
+        if bench.is_waiting:
             return True
         doubts, aside = [self.unkept_words(", quit again drops {}")], in_words(bench.put_aside() or [""], "and", 5)
         if bench.is_unsaved(bench.program.now.text):
             doubts.insert(0, "The edits that you typed are in no file: save FILE keeps them, quit again drops them.")
         elif aside:
             doubts.insert(0, "A reload has put aside what you typed (%s), and no file has it: undo goes back to it, quit again drops it." % aside)
-        self.doubted = "quit" if any(doubts) else ""
-        self.screen.say(*doubts)
-        return not any(doubts)
+        return self.is_sure("quit", *doubts)
+
+    def is_sure(self, line: str, *doubts: str) -> bool:
+        """Whether nothing speaks against a command, or it is typed again; otherwise says what does."""
+        is_sure = self.doubted == line or not any(doubts)
+        self.doubted = "" if is_sure else line
+        self.screen.say(*([] if is_sure else doubts))
+        return is_sure
 
     def unkept_words(self, then: str = "") -> str:
         """Returns the sentence on words that were added and that no file has; nothing if there are none."""

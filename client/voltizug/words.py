@@ -11,6 +11,7 @@ from .commands import COMMANDS, NAMED, OPEN_BLOCKS, STRANGE
 from .kept import is_same, read_file, read_lines
 from .layout import counted, in_words, named, short
 from .near import folded, meant, near
+from .places import Places
 from .options import CALLED
 from .program import Reply, encoded
 
@@ -163,14 +164,20 @@ def no_name(line: str, bench: Stage) -> str:
         return begin + "this is a " + use % short(name)
     if any(row.kind == "integer" and row.name == name for row in bench.read("integers a")):
         return "%sthis is an integer variable, and no %s. integers WORD shows its value at the end of a run." % (begin, kinds[0])
-    entry = next((key for key in places.entries if argument in (key[2], "'%s'" % key[2])), None) if command == "uses" else None
+    entry = is_string(argument, places) if command == "uses" else ""
     if entry:
-        return "%s is a string of an among: uses %s %s %s." % (short(argument), *map(short, entry))
+        return entry
     bare = re.sub(r"\Anon[-_]?", "", name)
     question = meant(name, there) or " Did you mean %s?" % short(bare) * (bare in there)
     others = " The script has %s." % (in_words(there, "and") if there else "none")
     others += " Declare and define a new one in the file." if command in ("routine", "grouping") else ""
     return "%sthere is no %s of this name.%s" % (begin, " or ".join(kinds), question or others)
+
+
+def is_string(text: str, places: Places, name: str = "") -> str:
+    """Returns the sentence on a text that is a string of an among, of that definition if it is named; otherwise nothing."""
+    entry = next((key for key in places.entries if name in ("", key[0]) and text in (key[2], "'%s'" % key[2])), None)
+    return "%s is a string of an among: uses %s %s %s." % (short(text), *map(short, entry)) if entry else ""
 
 
 def amongs_of(line: str, bench: Stage) -> str:
@@ -190,10 +197,10 @@ def unknown(line: str, bench: Stage) -> str:
         return strange.format(c=command, called=named(CALLED))
     if command in ("among", "uses"):
         (name, _, string), places = argument.partition(" "), bench.places()
-        entry = next((key for key in places.entries if key[0] == name and string in (key[2], "'%s'" % key[2])), None) if command == "uses" else None
+        entry = is_string(string, places, name) if command == "uses" else ""
         known = " " + amongs_of(line, bench) if places.kind(name) == "routine" else ""
         if entry:
-            return "%s is a string of an among: uses %s %s %s." % (short(string), *map(short, entry))
+            return entry
         if known.endswith("no among."):
             return known.strip() + ' Use "uses %s".' % short(name) * (command == "uses")
         lacks = "a number" if known else "a name and a number" if command == "among" else "a name"
