@@ -9,7 +9,7 @@ from .bench import Bench
 from .conditions import BODY
 from .editor.names import Names
 from .layout import counted, in_words, named, short
-from .places import LARGEST
+from .places import LARGEST, Places, line_and_column
 from .rows import Outcome, Token
 
 # (of few words most letters are missing)
@@ -30,189 +30,64 @@ CHANGING_TEXT = (*TAKING[:2], "<+", "insert", "attach")
 FAILING = {*MOVING, *"among substring tomark atmark atlimit false fail not non == != < <= > >=".split()}
 PASSING = ("(", "[", "backwards", "test", *SURE)
 
-# A byte of the current text, and what is said of it.
-Lint = Tuple[int, str]
-
 
 def lints(bench: Bench, has_all: bool = False) -> List[str]:
     """Returns lines on the current text. All has letters beyond ASCII in literals, too; and of many words only that looks at each."""
     if len(bench.program.now.text) > LARGEST:
         return ["%s has more than {:,} bytes, and is not looked at".format(LARGEST) % named(bench.script)] if has_all else []
-    is_each = has_all or bench.size <= MANY
-    script = Lints(bench, bench.outcomes() if is_each else [])
-    found = [*script.misused(), *script.unset_slices(), *script.bare_commands(), *script.plain_braces(), *script.late_takings()]
-    found += script.half_done()
-    found += script.stopping_calls([start for start, _ in found]) if is_each else []
-    found += script.strange_strings() if has_all or bench.size >= FEW else []
-    found += [*script.wrong_ways(), *(script.letters_beyond_ascii() if has_all else [])]
-    shown = ["%s: %s" % (named(script.places.spot(start)), what) for start, what in sorted(found)]
-    if len(shown) > MOST and not has_all:
-        shown[MOST:] = ['.. and {:,} more: "lint" shows all'.format(len(shown) - MOST)]
-    return shown + script.strange_words()
+    places, outcomes = bench.places(), bench.outcomes() if has_all or bench.size <= MANY else []
+    tokens = [token for token in places.tokens if token.kind != "comment"]
+    found = [*misused(tokens), *unset_slices(places), *bare_commands(places, tokens), *plain_braces(tokens), *late_takings(places), *half_done(places)]
+    found += stopping_calls(places, bench, [start for start, _ in found]) if has_all or bench.size <= MANY else []
+    found += strange_strings(places, outcomes, tokens) if has_all or bench.size >= FEW else []
+    found += wrong_ways(places, bench, outcomes) if outcomes and places.entries else []
+    beyond = [token for token in tokens if has_all and token.kind == "literal" and not token.text.isascii()]
+    others = " (and {})".format(counted(len(beyond) - 1, "more literal")) if len(beyond) > 1 else ""
+    what = "%s has a letter beyond ASCII%s: other compilers ask for a stringdef"
+    found += [(token.start, what % (short(token.text), others)) for token in beyond[:1]]
+    shown = ["%s: %s" % (named(spot(places, start)), what) for start, what in sorted(found)]
+    more = len(shown) - MOST if not has_all else 0
+    shown = shown[: len(shown) - max(0, more)] + ['.. and {:,} more: "lint" shows all'.format(more)] * (more > 0)
+    return shown + strange_words(places, outcomes, tokens)
 
 
-class Lints:
-    """A current text and the outcomes of its words, as lints look at them: each is a method."""
+def spot(places: Places, start: int) -> str:
+    """Returns the place of a byte of the current text, in SCRIPT or in what was typed."""
+    home = next((name for name, row in places.definitions.items() if int(row.start) <= start < int(row.end)), "")
+    return places.at(home, start) if home else "%s:%d:%d" % (places.script, *line_and_column(places.text, start))
 
-    def __init__(self, bench: Bench, outcomes: Sequence[Outcome]):
-        self.bench, self.outcomes, self.places = bench, outcomes, bench.places()
-        self.tokens = [token for token in self.places.tokens if token.kind != "comment"]
-        # By routine the tokens of its body, and the routines that call it; the routines that may fail.
-        self.bodies = {name: self.places.part(name)[BODY:] for name in self.places.of_kind("routine")}
-        self.callers = callers(self.bodies)
-        self.failing = self.may_fail()
 
-    def having(self, *words: str) -> List[str]:
-        """Returns the routines that have one of these words."""
-        return [name for name, body in self.bodies.items() if any(token.text in words for token in body)]
+def misused(tokens: Sequence[Token]) -> Iterable[Tuple[int, str]]:
+    """An empty slice, a limit for `[`, `$x = cursor`, a group of only a literal beside one with `<-`, an integer that may stay 0, `do X or`."""
+    texts, kinds = [token.text for token in tokens] + [""] * 7, [token.kind for token in tokens] + [""] * 7
+    values = {(texts[i + 1], texts[i + 2]) for i, text in enumerate(texts) if text == "$"}
+    for i, token in enumerate(tokens):
+        after = texts[i + 2 + (kinds[i + 2] == "name")]
+        if texts[i : i + 2] == ["[", "]"] and after in EMPTY:
+            yield token.start, "the slice is empty here: " + EMPTY[after]
+        elif texts[i : i + 3] == ["for", "[", "substring"]:
+            yield token.start, "the limit is for [ alone, and substring has none: for ( [substring] ) is meant, perhaps"
+        elif token.text == "$" and texts[i + 2 : i + 4] == ["=", "cursor"] and texts[i + 4] not in "+-*/":
+            yield token.start, "${0} = cursor sets {0} and never fails: == or <= is meant, perhaps".format(short(texts[i + 1]))
+        elif kinds[i] == kinds[i + 2] == "literal" and texts[i + 1 : i + 4 : 2] == ["(", ")"] and "<-" in (texts[i - 3], texts[i + 6]):
+            yield tokens[i + 2].start, "({0}) only tests whether {0} is there: (<- {0}) is meant, perhaps".format(short(texts[i + 2]))
+        elif token.text == "setmark" and (texts[i + 1], "=") not in values and any((texts[i + 1], sign) in values for sign in ("<", "<=", ">", ">=")):
+            yield token.start, "{0} is 0 in the run of a word that does not come here: ${0} = limit before it is meant, perhaps".format(texts[i + 1])
+        elif token.text in SURE and texts[i - 1] not in NOT_SURE and texts[i + 1] and texts[end_of(tokens, i + 1)] == "or":
+            what = "{0} never fails, so what is after this or never runs: {0} ( .. or .. ) is meant, perhaps"
+            yield token.start, what.format(token.text)
 
-    def doing(self, *words: str) -> Set[str]:
-        """Returns the routines that have one of these words, or call such a routine."""
-        return reached(self.having(*words), self.callers)
 
-    def may_fail(self) -> Set[str]:
-        """Returns the routines that may fail, as far as that is plain: what they do after `do`, `try` or `repeat` does not count."""
-        tests, parts = {*FAILING, *self.places.of_kind("grouping")}, {name: unsure(body) for name, body in self.bodies.items()}
-        return reached([name for name, part in parts.items() if any(token.kind == "literal" or token.text in tests for token in part)], callers(parts))
-
-    # Of a command and what is beside it
-
-    def misused(self) -> Iterable[Lint]:
-        """An empty slice, a limit for `[`, `$x = cursor`, a group of only a literal beside one with `<-`, an integer that may stay 0, `do X or`."""
-        texts, kinds = [token.text for token in self.tokens] + [""] * 7, [token.kind for token in self.tokens] + [""] * 7
-        values = {(texts[i + 1], texts[i + 2]) for i, text in enumerate(texts) if text == "$"}
-        for i, token in enumerate(self.tokens):
-            after = texts[i + 2 + (kinds[i + 2] == "name")]
-            if texts[i : i + 2] == ["[", "]"] and after in EMPTY:
-                yield token.start, "the slice is empty here: " + EMPTY[after]
-            elif texts[i : i + 3] == ["for", "[", "substring"]:
-                yield token.start, "the limit is for [ alone, and substring has none: for ( [substring] ) is meant, perhaps"
-            elif token.text == "$" and texts[i + 2 : i + 4] == ["=", "cursor"] and texts[i + 4] not in "+-*/":
-                yield token.start, "${0} = cursor sets {0} and never fails: == or <= is meant, perhaps".format(short(texts[i + 1]))
-            elif kinds[i] == kinds[i + 2] == "literal" and texts[i + 1 : i + 4 : 2] == ["(", ")"] and "<-" in (texts[i - 3], texts[i + 6]):
-                yield self.tokens[i + 2].start, "({0}) only tests whether {0} is there: (<- {0}) is meant, perhaps".format(short(texts[i + 2]))
-            elif token.text == "setmark" and (texts[i + 1], "=") not in values and any((texts[i + 1], sign) in values for sign in ("<", "<=", ">", ">=")):
-                yield token.start, "{0} is 0 in the run of a word that does not come here: ${0} = limit before it is meant, perhaps".format(texts[i + 1])
-            elif token.text in SURE and texts[i - 1] not in NOT_SURE and texts[i + 1] and texts[end_of(self.tokens, i + 1)] == "or":
-                what = "{0} never fails, so what is after this or never runs: {0} ( .. or .. ) is meant, perhaps"
-                yield token.start, what.format(token.text)
-
-    def late_takings(self) -> Iterable[Lint]:
-        """A command that takes the slice directly after a routine that sets another one and takes that."""
-        own = {*self.having("[")} & {*self.having(*TAKING[:2])}
-        what = "{0} sets a slice of its own and takes it, so this {1} comes too late: {1} before {0} is meant, perhaps"
-        for body in self.bodies.values():
-            for before, token in zip(body, body[1:]):
-                if before.text in own and token.text in TAKING[:2]:
-                    yield token.start, what.format(before.text, token.text)
-
-    def plain_braces(self) -> Iterable[Lint]:
-        """The first literal with {..} above which there are no insert characters."""
-        above = takewhile(lambda token: token.text != "stringescapes", self.tokens)
-        for token in [token for token in above if token.kind == "literal" and re.search("{.*}", token.text)][:1]:
-            yield token.start, "%s has { and } as letters: no stringescapes {} is above it" % short(token.text)
-
-    def letters_beyond_ascii(self) -> Iterable[Lint]:
-        beyond = [token for token in self.tokens if token.kind == "literal" and not token.text.isascii()]
-        others = " (and {})".format(counted(len(beyond) - 1, "more literal")) if len(beyond) > 1 else ""
-        for token in beyond[:1]:
-            yield token.start, "%s has a letter beyond ASCII%s: other compilers ask for a stringdef" % (short(token.text), others)
-
-    def half_done(self) -> Iterable[Lint]:
-        """The first command on the left of an `or`, or of a routine there, that changes the text, if what comes after it on the left may fail."""
-        doubtful = {*FAILING, *self.places.of_kind("grouping"), *self.failing}
-        what = "if what comes after this {} fails, the text stays changed: the or puts back the cursor alone"
-        for side in (left_side(body, i, self.bodies) for body in self.bodies.values() for i, token in enumerate(body) if token.text == "or"):
-            depths = list(accumulate((token.text == "(") - (token.text == ")") for token in side))
-            at = next((i for i, token in enumerate(side) if token.text in CHANGING_TEXT and not depths[i]), len(side))
-            if any(token.kind == "literal" or token.text in doubtful for token in unsure(side[at:])):
-                yield side[at].start, what.format(side[at].text)
-
-    # Of what calls what
-
-    def bare_commands(self) -> Iterable[Lint]:
-        """A routine that changes something and may fail, or ( .. or such a routine ), without `do` and before something else in an external."""
-        declared = takewhile(lambda token: token.text != ")", dropwhile(lambda token: token.text != "externals", self.tokens))
-        doubtful = self.failing & self.doing(*CHANGING)
-        what = "if {0} fails, nothing after it in {1} runs: do {0} is meant, perhaps"
-        for name in [token.text for token in declared if token.text in self.bodies]:
-            body = self.bodies[name]
-            for i, end in bare(body):
-                if body[end].text in doubtful or i < end and body[end - 2].text == "or" and body[end - 1].text in doubtful:
-                    yield body[i].start, what.format("( .. )" if i < end else body[i].text, name)
-
-    def stopping_calls(self, known: Sequence[int]) -> Iterable[Lint]:
-        """A routine that does more than test, is called once, without `do`, and fails for most words, so that what comes after it does not run."""
-        calls = Counter(token.text for body in self.bodies.values() for token in body)
-        doing = [name for name in self.failing & self.doing(*CHANGING, *MOVING) if calls[name] == 1]
-        doubtful = [name for name in doing if {"test", "not"}.isdisjoint(token.text for token in self.bodies[name][:2])]
-        found = [(name, body, i) for name, body in self.bodies.items() for i, end in bare(body) if body[end].text in doubtful and body[i].start not in known]
-        counts = {(row.name, getattr(row, "k", "")): int(row.count) for row in (self.bench.read("counts") if found else []) if row.kind in ("routine", "among")}
-        what = "{0} fails for {1:,} of {2:,} words, and then nothing after it in {3} runs: do {0} is meant, perhaps"
-        for name, body, i in found:
-            then = next((token for token in body[i + 1 :] if token.text not in PASSING), body[i])
-            among = next((key for key, row in self.places.amongs.items() if key[0] == name and int(row.start) >= then.start), (name, ""))
-            came = counts.get((body[i].text, ""), 0)
-            went = counts.get(among if then.text in ("substring", "among") else (then.text, ""), came)
-            if 2 * went < came:
-                yield body[i].start, what.format(body[i].text, came - went, came, name)
-
-    def unset_slices(self) -> Iterable[Lint]:
-        """The first command of a routine that takes the slice, if there is no [ or no ] in the routine, in what it calls, and in what calls it."""
-        calls = {name: {token.text for token in body} & self.bodies.keys() for name, body in self.bodies.items()}
-        there = {sign: reached(self.having(sign), calls) | self.doing(sign) for sign in "[]"}
-        what = "{}, what it calls and what calls it have no {}: this {} takes an earlier slice, or an empty one"
-        for name, body in self.bodies.items():
-            lacking = [sign for sign in "[]" if name not in there[sign]]
-            for token in [token for token in body if token.text in TAKING and lacking][:1]:
-                yield token.start, what.format(name, in_words(lacking, "and no"), token.text)
-
-    # Of the words
-
-    def strange_strings(self) -> Iterable[Lint]:
-        """The strings of amongs with a letter that no word has and no command puts in. (If what is put in may have macros, none is looked at.)"""
-        put = "".join(token.text for before, token in zip(self.tokens, self.tokens[1:]) if token.kind == "literal" and before.text in PUTTING)
-        if not self.outcomes or set(put) & set("".join(token.text for token in self.tokens if token.kind == "inserts")):
-            return
-        there: Set[str] = set(put).union(*(row.word + row.stem * (row.kind == "stem") for row in self.outcomes))
-        for (_, _, string), row in self.places.entries.items():
-            strange = " ".join(sorted(set(string) - there))
-            if strange:
-                yield int(row.start), "'%s' has %s, which no word has and no command puts in" % (short(string), short(strange))
-
-    def wrong_ways(self) -> Iterable[Lint]:
-        """Amongs of which most strings are taken in no run, and are only at that end of words from which the among does not go."""
-        untaken = {(row.name, row.k, row.string) for row in self.bench.read("counts") if row.kind == "entry" and row.count == "0"} if self.outcomes else set()
-        strings: Dict[Tuple[str, str], List[str]] = {}
-        for name, k, string in self.places.entries if untaken else []:
-            strings.setdefault((name, k), []).append(string)
-        sizes = {len(string) for _, _, string in self.places.entries} - {0}
-        begins, ends = ({row.word[part(size)] for row in self.outcomes for size in sizes} for part in (lambda size: slice(size), lambda size: slice(-size, None)))
-        items = Names(self.places.tokens).items
-        what = {
-            False: "{0} runs forwards, and {1} of these strings, as '{2}', only end words: define {0} in backwardmode, and backwards {0}, is meant, perhaps",
-            True: "{0} runs backwards, and {1} of these strings, as '{2}', only begin words: a define outside of backwardmode is meant, perhaps",
-        }
-        for (name, k), there in ((key, there) for key, there in strings.items() if key[0] in items):
-            start, is_back = int(self.places.amongs[name, k].start), items[name].is_backward
-            near, far = (ends, begins) if is_back else (begins, ends)
-            odd = [string for string in there if (name, k, string) in untaken and string in far and string not in near]
-            if 2 * len(odd) >= max(4, len(there)) and not any(token.text == "backwards" and token.start < start for token in self.places.part(name)):
-                yield start, what[is_back].format(name, len(odd), short(odd[0]))
-
-    def strange_words(self) -> List[str]:
-        """Words with capitals or signs that no string has, these if they are many, and words with the empty stem."""
-        strings = [string for _, _, string in self.places.entries]
-        signs = set("".join(re.sub("{[^}]*}", "", token.text) for token in self.tokens if token.kind == "literal"))
-        has_capitals = any(string != string.lower() for string in strings) or not strings
-        large = [row.word for row in self.outcomes if row.word != row.word.lower() and not has_capitals]
-        signed = [row.word for row in self.outcomes if not row.word.isalpha() and any(unicodedata.category(c)[0] in "PS" for c in set(row.word) - signs)]
-        many = "{:,} of {:,} words {} {}, as '{}'{}"
-        return [many.format(len(found), len(self.outcomes), "has" if len(found) == 1 else "have", what, short(found[0]), then) for found, what, then in (
-            (large, "capitals", ", and no string of an among has one"),
-            (signed if 2 * len(signed) > len(self.outcomes) else [], "a sign that is no letter", ", and no literal has it"),
-            ([row.word for row in self.outcomes if (row.kind, row.stem) == ("stem", "")], "the empty stem", ""),
-        ) if found]
+def bare_commands(places: Places, tokens: Sequence[Token]) -> Iterable[Tuple[int, str]]:
+    """A routine that changes something and may fail, or ( .. or such a routine ), without `do` and before something else in an external."""
+    declared = takewhile(lambda token: token.text != ")", dropwhile(lambda token: token.text != "externals", tokens))
+    doubtful = may_fail(places) & those_with(CHANGING, places)
+    what = "if {0} fails, nothing after it in {1} runs: do {0} is meant, perhaps"
+    for name in [token.text for token in declared if places.kind(token.text) == "routine"]:
+        part = places.part(name)[BODY:]
+        for i, end in bare(part):
+            if part[end].text in doubtful or i < end and part[end - 2].text == "or" and part[end - 1].text in doubtful:
+                yield part[i].start, what.format("( .. )" if i < end else part[i].text, name)
 
 
 def bare(part: Sequence[Token]) -> Iterable[Tuple[int, int]]:
@@ -223,6 +98,14 @@ def bare(part: Sequence[Token]) -> Iterable[Tuple[int, int]]:
         if before not in GOVERNING and not before.isdigit() and texts[end + 1] not in ("or", "and", ")", ""):
             yield i, end
         before, i = texts[end], end + 1
+
+
+def may_fail(places: Places) -> Set[str]:
+    """Returns the routines that may fail, as far as that is plain: what they do after `do`, `try` or `repeat` does not count."""
+    parts = {name: unsure(places.part(name)[BODY:]) for name in places.of_kind("routine")}
+    tests = {*FAILING, *places.of_kind("grouping")}
+    first = [name for name, part in parts.items() if any(token.kind == "literal" or token.text in tests for token in part)]
+    return reached(first, callers({name: {token.text for token in part} for name, part in parts.items()}))
 
 
 def unsure(part: Sequence[Token]) -> List[Token]:
@@ -240,6 +123,51 @@ def unsure(part: Sequence[Token]) -> List[Token]:
     return found
 
 
+def stopping_calls(places: Places, bench: Bench, known: Sequence[int]) -> Iterable[Tuple[int, str]]:
+    """A routine that does more than test, is called once, without `do`, and fails for most words, so that what comes after it does not run."""
+    parts = {name: places.part(name)[BODY:] for name in places.of_kind("routine")}
+    calls = Counter(token.text for part in parts.values() for token in part)
+    doing = may_fail(places) & those_with((*CHANGING, *MOVING), places)
+    doubtful = [name for name in doing if calls[name] == 1 and {"test", "not"}.isdisjoint(token.text for token in parts[name][:2])]
+    found = [(name, part, i) for name, part in parts.items() for i, end in bare(part) if part[end].text in doubtful and part[i].start not in known]
+    counts = {(row.name, getattr(row, "k", "")): int(row.count) for row in (bench.read("counts") if found else []) if row.kind in ("routine", "among")}
+    what = "{0} fails for {1:,} of {2:,} words, and then nothing after it in {3} runs: do {0} is meant, perhaps"
+    for name, part, i in found:
+        then = next((token for token in part[i + 1 :] if token.text not in PASSING), part[i])
+        among = next((key for key, row in places.amongs.items() if key[0] == name and int(row.start) >= then.start), (name, ""))
+        came = counts.get((part[i].text, ""), 0)
+        went = counts.get(among if then.text in ("substring", "among") else (then.text, ""), came)
+        if 2 * went < came:
+            yield part[i].start, what.format(part[i].text, came - went, came, name)
+
+
+def those_with(words: Sequence[str], places: Places) -> Set[str]:
+    """Returns the routines that have one of these words, or call such a routine."""
+    texts = {name: {token.text for token in places.part(name)[BODY:]} for name in places.of_kind("routine")}
+    return reached([name for name, part in texts.items() if not part.isdisjoint(words)], callers(texts))
+
+
+def callers(texts: Dict[str, Set[str]]) -> Dict[str, Set[str]]:
+    """Returns by routine those that call it, by what is in each."""
+    found: Dict[str, Set[str]] = {name: set() for name in texts}
+    for name, part in texts.items():
+        for other in part & found.keys():
+            found[other].add(name)
+    return found
+
+
+def half_done(places: Places) -> Iterable[Tuple[int, str]]:
+    """The first command on the left of an `or`, or of a routine there, that changes the text, if what comes after it on the left may fail."""
+    bodies = {name: places.part(name)[BODY:] for name in places.of_kind("routine")}
+    doubtful = {*FAILING, *places.of_kind("grouping"), *may_fail(places)}
+    what = "if what comes after this {} fails, the text stays changed: the or puts back the cursor alone"
+    for side in (left_side(body, i, bodies) for body in bodies.values() for i, token in enumerate(body) if token.text == "or"):
+        depths = list(accumulate((token.text == "(") - (token.text == ")") for token in side))
+        at = next((i for i, token in enumerate(side) if token.text in CHANGING_TEXT and not depths[i]), len(side))
+        if any(token.kind == "literal" or token.text in doubtful for token in unsure(side[at:])):
+            yield side[at].start, what.format(side[at].text)
+
+
 def left_side(body: Sequence[Token], at: int, bodies: Dict[str, List[Token]]) -> Sequence[Token]:
     """Returns the commands in the bracket, or in the routine, that is directly before an `or`; none if it never fails."""
     depths = accumulate((token.text == ")") - (token.text == "(") for token in reversed(body[:at]))
@@ -250,17 +178,38 @@ def left_side(body: Sequence[Token], at: int, bodies: Dict[str, List[Token]]) ->
     return body[begin + 1 : at - 1] if body[begin].text == "(" else called[1:-1] if called and end_of(called, 0) == len(called) else called
 
 
-def callers(bodies: Dict[str, List[Token]]) -> Dict[str, Set[str]]:
-    """Returns by routine those that call it."""
-    found: Dict[str, Set[str]] = {name: set() for name in bodies}
-    for name, body in bodies.items():
-        for token in body:
-            if token.text in found:
-                found[token.text].add(name)
-    return found
+def late_takings(places: Places) -> Iterable[Tuple[int, str]]:
+    """A command that takes the slice directly after a routine that sets another one and takes that."""
+    parts = {name: places.part(name)[BODY:] for name in places.of_kind("routine")}
+    own = {name for name, part in parts.items() for texts in [{token.text for token in part}] if "[" in texts and not texts.isdisjoint(TAKING[:2])}
+    what = "{0} sets a slice of its own and takes it, so this {1} comes too late: {1} before {0} is meant, perhaps"
+    for part in parts.values():
+        for before, token in zip(part, part[1:]):
+            if before.text in own and token.text in TAKING[:2]:
+                yield token.start, what.format(before.text, token.text)
 
 
-def reached(names: Iterable[str], ways: Dict[str, Set[str]]) -> Set[str]:
+def plain_braces(tokens: Sequence[Token]) -> Iterable[Tuple[int, str]]:
+    """The first literal with {..} above which there are no insert characters."""
+    above = takewhile(lambda token: token.text != "stringescapes", tokens)
+    for token in [token for token in above if token.kind == "literal" and re.search("{.*}", token.text)][:1]:
+        yield token.start, "%s has { and } as letters: no stringescapes {} is above it" % short(token.text)
+
+
+def unset_slices(places: Places) -> Iterable[Tuple[int, str]]:
+    """The first command of a routine that takes the slice, if there is no [ or no ] in the routine, in what it calls, and in what calls it."""
+    parts = {name: places.part(name)[2:] for name in places.of_kind("routine")}
+    calls = {name: {token.text for token in part}.intersection(parts) for name, part in parts.items()}
+    having = {sign: [name for name, part in parts.items() if any(token.text == sign for token in part)] for sign in "[]"}
+    there = {sign: reached(having[sign], calls) | reached(having[sign], callers(calls)) for sign in "[]"}
+    for name, part in parts.items():
+        lacking = [sign for sign in "[]" if name not in there[sign]]
+        for token in [token for token in part if token.text in TAKING and lacking][:1]:
+            what = "{}, what it calls and what calls it have no {}: this {} takes an earlier slice, or an empty one"
+            yield token.start, what.format(name, in_words(lacking, "and no"), token.text)
+
+
+def reached(names: Sequence[str], ways: Dict[str, Set[str]]) -> Set[str]:
     """Returns names and all to which ways lead from them."""
     found, queue = set(names), list(names)
     for each in queue:
@@ -278,3 +227,50 @@ def end_of(tokens: Sequence[Token], at: int) -> int:
         if not depth:
             return i + 1
     return len(tokens)
+
+
+def strange_strings(places: Places, outcomes: Sequence[Outcome], tokens: Sequence[Token]) -> Iterable[Tuple[int, str]]:
+    """The strings of amongs with a letter that no word has and no command puts in. (If what is put in may have macros, none is looked at.)"""
+    put = "".join(token.text for before, token in zip(tokens, tokens[1:]) if token.kind == "literal" and before.text in PUTTING)
+    if not outcomes or set(put) & set("".join(token.text for token in tokens if token.kind == "inserts")):
+        return
+    there: Set[str] = set(put).union(*(row.word + row.stem * (row.kind == "stem") for row in outcomes))
+    for (_, _, string), row in places.entries.items():
+        strange = " ".join(sorted(set(string) - there))
+        if strange:
+            yield int(row.start), "'%s' has %s, which no word has and no command puts in" % (short(string), short(strange))
+
+
+def wrong_ways(places: Places, bench: Bench, outcomes: Sequence[Outcome]) -> Iterable[Tuple[int, str]]:
+    """Amongs of which most strings are taken in no run, and are only at that end of words from which the among does not go."""
+    untaken = {(row.name, row.k, row.string) for row in bench.read("counts") if row.kind == "entry" and row.count == "0"}
+    strings: Dict[Tuple[str, str], List[str]] = {}
+    for name, k, string in places.entries:
+        strings.setdefault((name, k), []).append(string)
+    sizes = {len(string) for _, _, string in places.entries} - {0}
+    begins, ends = ({way(row.word, size) for row in outcomes for size in sizes} for way in (lambda word, size: word[:size], lambda word, size: word[-size:]))
+    items = Names(places.tokens).items
+    what = {
+        False: "{0} runs forwards, and {1} of these strings, as '{2}', only end words: define {0} in backwardmode, and backwards {0}, is meant, perhaps",
+        True: "{0} runs backwards, and {1} of these strings, as '{2}', only begin words: a define outside of backwardmode is meant, perhaps",
+    }
+    for (name, k), there in ((key, there) for key, there in strings.items() if key[0] in items):
+        start, is_back = int(places.amongs[name, k].start), items[name].is_backward
+        near, far = (ends, begins) if is_back else (begins, ends)
+        odd = [string for string in there if (name, k, string) in untaken and string in far and string not in near]
+        if 2 * len(odd) >= max(4, len(there)) and not any(token.text == "backwards" and token.start < start for token in places.part(name)):
+            yield start, what[is_back].format(name, len(odd), short(odd[0]))
+
+
+def strange_words(places: Places, outcomes: Sequence[Outcome], tokens: Sequence[Token]) -> List[str]:
+    """Words with capitals or signs that no string has, these if they are many, and words with the empty stem."""
+    strings = [string for _, _, string in places.entries]
+    signs = set("".join(re.sub("{[^}]*}", "", token.text) for token in tokens if token.kind == "literal"))
+    large = [row.word for row in outcomes if row.word != row.word.lower()] if strings and all(string == string.lower() for string in strings) else []
+    signed = [row.word for row in outcomes if not row.word.isalpha() and any(unicodedata.category(c)[0] in "PS" for c in set(row.word) - signs)]
+    empty = [row.word for row in outcomes if (row.kind, row.stem) == ("stem", "")]
+    many = "{:,} of {:,} words {} {}, as '{}'{}"
+    return [many.format(len(found), len(outcomes), "has" if len(found) == 1 else "have", what, short(found[0]), then) for found, what, then in (
+        (large, "capitals", ", and no string of an among has one"),
+        (signed if 2 * len(signed) > len(outcomes) else [], "a sign that is no letter", ", and no literal has it"), (empty, "the empty stem", ""),
+    ) if found]

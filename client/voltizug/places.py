@@ -39,11 +39,6 @@ class Places:
         row = self.definitions.get(name) if not k else self.amongs.get((name, k)) if string is None else self.entries.get((name, k, string))
         return self.at(name, int(row.start)) if row else ""
 
-    def spot(self, start: int) -> str:
-        """Returns the place of a byte of the current text."""
-        home = next((name for name, row in self.definitions.items() if int(row.start) <= start < int(row.end)), "")
-        return self.at(home, start) if home else "%s:%d:%d" % (self.script, *line_and_column(self.text, start))
-
     def at(self, name: str, start: int) -> str:
         """Returns the place of a byte of the current text that is in the definition of a name."""
         home, first = self.definitions[name], self.in_file(name)
