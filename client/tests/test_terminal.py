@@ -42,6 +42,23 @@ class Sessions(Case):
         self.assertIn("taken back: the whole script; 3 words", terminal.enter("undo"))
         self.assertEqual(terminal.enter("save new.sbl"), "saved in new.sbl")
 
+    def test_a_typed_edit_that_makes_the_text_one_of_before(self):
+        """It is in no file, whatever SCRIPT had once: it is said by `quit`, and after a reload."""
+        terminal = self.begin()
+        terminal.save(AUTHOR.replace("hop 5", "hop 4"))
+        terminal.enter("", "routine long", "test hop 5", ".")
+        self.assertEqual(terminal.enter("script"), AUTHOR.rstrip("\n"))
+        self.assertEqual(terminal.enter("quit"), "The edits that you typed are in no file: save FILE keeps them, quit again drops them.")
+        terminal.save(AUTHOR.replace("hop 5", "hop 4") + "// new\n")
+        self.assertIn("put aside: long (undo brings it back)", terminal.enter(""))
+        self.assertEqual(
+            terminal.enter("quit"), "A reload has put aside what you typed (long), and no file has it: undo goes back to it, quit again drops it.",
+        )
+        terminal.save(AUTHOR)
+        terminal.enter("")
+        terminal.send("quit\r")
+        self.assertEqual(terminal.ended(), 0)
+
     def test_a_loop_is_located(self):
         terminal = self.begin(LOOP, "abc\n", program=FAKE)
         self.assertIn("In the run of abc the repeat of my.sbl:4:18 in stem goes round: it calls r again and again, ", self.start)

@@ -230,6 +230,9 @@ class Bench(Stage):
         if word == "replace" and " " in command and not command.startswith("replace " + self.kept.folder):
             # (another file has this text)
             self.read_texts.add(hash(text))
+        elif word not in ("reload", "undo", "redo") and text not in (before.text, self.file_text):
+            # (it was typed, also if it is as one that was read before)
+            self.read_texts.discard(hash(text))
         self.changes = rows.read("changes", changes.lines)
         found = pairs_of(*pairs)
         figures, self.pairs = (*(self.pairs or found), *found) if found else (), found or self.pairs
