@@ -18,6 +18,10 @@ class Layouts(Case):
         self.assertEqual(layout.broken("  one two three", 9), ["  one two", "      three"])
         self.assertEqual(layout.broken("Keys    one two three four five", 24), ["Keys    one two three", "        four five"])
         self.assertEqual(layout.broken("of 1,234,567 pairs, a,b", 10), ["of", "    1,234,567", "    pairs,", "    a,b"])
+        self.assertEqual(
+            layout.broken("a.sbl: not UTF-8. If it is Latin-1: iconv -f latin1 -t utf-8 a,b > NEW. Then: mv NEW a", 30),
+            ["a.sbl: not UTF-8. If it is", "    Latin-1:", "    iconv -f latin1 -t utf-8 a,b > NEW.", "    Then: mv NEW a"],
+        )
         self.assertEqual([layout.columns(text) for text in ("ab", "漢字", "e\u0301", "\t")], [2, 4, 1, 8])
         self.assertEqual([layout.cut("漢字漢字", 6), layout.cut("abcdef", 6), layout.cut("abcdefg", 6)], ["漢字..", "abcdef", "abcd.."])
 

@@ -249,7 +249,10 @@ class Bench(Stage):
             return "fault gone" if had_fault else "unchanged" if self.file_text == now.text else "same"
         if word == "undo" and before.text == self.file_text != now.text:
             return "undone in file"
-        return "the same script" if word not in ("undo", "redo", "reload") and (is_not_held or before == now) else ""
+        is_same = is_not_held or before == now
+        if word == "limit":
+            return "the same limit" if is_same else "limit"
+        return "the same script" if word not in ("undo", "redo", "reload") and is_same else ""
 
     def note_text(self, word: str, before: Moment, history: Sequence[Any]) -> Optional[Tuple[str, ...]]:
         """Notes which texts files have. Returns the names of the typed edits that a reload put aside."""
@@ -287,6 +290,8 @@ class Bench(Stage):
         is_report, is_own = command not in ("save", "approve", "append"), is_save and self.is_script(path)
         is_refused = self.refused_text is not None and self.refused_text == read_file(self.script)
         is_new = is_own or is_append or not is_there
+        # (what `save` or `approve` wrote, and nobody changed since, is overwritten; reports and stems can be made again)
+        is_other = not is_new and os.path.isfile(path) and (is_report or self.written.get(name) != state_of(path))
         return next((why for why, is_so in (
             ("words", is_list and not is_append),
             ("script", self.is_script(path) and not is_save),
@@ -297,9 +302,10 @@ class Bench(Stage):
             ("gone", is_append and path == self.words and not os.path.lexists(path)),
             ("refused?", is_own and is_refused),
             ("undone?", is_own and self.is_older and self.script not in self.saved()),
-            ("again?", is_report and os.path.isfile(path)),
-            ("there", not is_new and (is_report or os.path.isfile(path) and name not in self.written)),
-            ("others", not is_new and os.path.isfile(path) and self.written.get(name) != state_of(path)),
+            ("there", not is_new and is_report and not os.path.isfile(path)),
+            ("again?", is_other and not is_save),
+            ("there", is_other and name not in self.written),
+            ("others", is_other),
         ) if is_so), "")
 
     def write(self, command: str, path: str) -> Reply:

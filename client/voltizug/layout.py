@@ -14,6 +14,9 @@ HIDDEN = re.compile("[\0-\x08\n-\x1f\x7f-\x9f\ud800-\udfff\u061c\u200b\u200e\u20
 LONGEST, COLUMN = 60, 24
 # A label at the beginning of a line, as in help.
 LABEL = re.compile(r"\S+( \S+)* {2,}")
+# A command of a shell; and what is in the place of its blanks and commas while a line is broken.
+SHELL = re.compile(r"(?<=: )(?:awk|cut|gzip|iconv|mv|sed|shuf|tr|uconv) .*?(?: > NEW\b|$)")
+HELD, RELEASED = str.maketrans(" ,", "\0\1"), str.maketrans("\0\1", " ,")
 
 
 def named(text: str) -> str:
@@ -38,16 +41,17 @@ def padded(text: str, column: int) -> str:
 
 
 def broken(line: str, width: int) -> List[str]:
-    """Returns a line as lines that fit: broken at blanks and commas, but not in a number; the others are indented, or below what follows a label."""
+    """Returns a line as lines that fit: broken at blanks and commas, but not in a number, and not in a command that is to be copied: the terminal
+    does that. The others are indented, or below what follows a label."""
     if columns(line) <= width:
         return [line]
     label = LABEL.match(line)
     hang = " " * label.end() if label and label.end() <= width // 3 else line[: len(line) - len(line.lstrip())] + "    "
     lines = [""]
-    for part in re.split(r"(?<=[ ,])(?! |(?<=\d,)\d)", line):
+    for part in re.split(r"(?<=[ ,])(?! |(?<=\d,)\d)", SHELL.sub(lambda found: found[0].translate(HELD), line)):
         if lines[-1].strip() and columns(lines[-1] + part.rstrip()) > width:
             lines[-1:] = [lines[-1].rstrip(), hang]
-        lines[-1] += part
+        lines[-1] += part.translate(RELEASED)
     return lines
 
 

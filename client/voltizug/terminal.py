@@ -9,7 +9,7 @@ from typing import Any, List, Sequence, Tuple
 
 from . import commands, kept, layout, lints, loops, options, reports, rows, screen, warn, words
 from .bench import Bench, typed_edits
-from .commands import BLOCKS, COMMANDS, LANGUAGE, OPEN_BLOCKS, REPORTING, WITH_TEXT
+from .commands import BLOCKS, COMMANDS, LANGUAGE, OPEN_BLOCKS, REPORTING, ROWS, WITH_TEXT
 from .conditions import with_tests
 from .desk import Desk
 from .keys import Broken, Dropped, Hangup
@@ -21,9 +21,9 @@ DEFINITION = re.compile(r"\s*define\s+([A-Za-z][A-Za-z0-9_]*)\s+(as(?=\s|$))?")
 TO_FILE = re.compile(r"(.*\S)\s+>\s*(\S+)\s*\Z")
 USAGE = "usage: %s work [--watch] [--rows | --text] [--color WHEN] [--no-pager] [--external NAME] [--from TEXT] [--stop FILE] SCRIPT [WORDS]" % options.CALLED
 # Replies that are not broken, since an author wrote them.
-TEXTS = ("script", "show", "echo", "events")
+TEXTS = ("script", "show", "echo", *ROWS)
 # By report how many of its last lines are figures.
-FIGURES = {"changes": 1, "families": 2}
+FIGURES = {"changes": 1, "last": 1, "families": 2}
 
 
 class Terminal(Desk):
@@ -34,6 +34,7 @@ class Terminal(Desk):
 
     def answer(self, line: str) -> bool:
         """Answers a line; returns whether `work` goes on."""
+        line = line.lstrip() if line.split(None, 1)[:1] in [[name] for name in COMMANDS] else line
         line = line if line.partition(" ")[0] in WITH_TEXT else line.rstrip()
         line = {"exit": "quit", "?": "help"}.get(line, line)
         command, _, argument = line.partition(" ")
@@ -49,11 +50,13 @@ class Terminal(Desk):
             return True
         if self.bench.is_waiting and line in ("", "reload"):
             self.open()
-        elif self.bench.is_waiting:
+        elif self.bench.is_waiting and command != "help":
             then = " and save it" if self.options.is_watching else ", save it, and press Enter"
             self.screen.say("A file has a fault, so no command runs yet. Correct it there%s. quit or Ctrl-D ends." % then)
         elif len(encoded(line)) > LONGEST:
             self.screen.say(words.SENTENCES[72])
+        elif command in COMMANDS and COMMANDS[command].takes == "FILE" and re.match("[<>|]", argument) and command not in REPORTING:
+            self.screen.say("%s takes the name of a file, without a sign before it: %s." % (command, COMMANDS[command].usage))
         elif line == "families" and self.bench.families and not self.editor.pending:
             self.ask("families " + self.bench.families)
         elif line in ("", "reload", "undo", "redo") or command in ("limit", "replace") and argument:
@@ -76,6 +79,10 @@ class Terminal(Desk):
     def ask(self, line: str) -> None:
         found = TO_FILE.match(line) if line.partition(" ")[0] in REPORTING else None
         typed, (line, path) = line, found.groups() if found else (line, "")
+        if line == "families" and not self.bench.families:
+            self.screen.say("families needs a file: families FILE > %s." % short(path))
+            return
+        line = "families " + self.bench.families if line == "families" else line
         command, _, argument = line.partition(" ")
         is_alone = argument in (">", ">>", "|") and command in COMMANDS and not COMMANDS[command].takes
         is_piped = " | " in " " + argument or " >> " in " " + argument or argument.endswith(" >") or is_alone
@@ -84,7 +91,8 @@ class Terminal(Desk):
             return
         # (a string may be typed as it is shown)
         line = re.sub(r"\A(uses \S+ [0-9]+) '(.*)'\Z", r"\1 \2", line)
-        asked = {"changes": "changes", "tests": "events " + argument}.get(command, {"largest": "largest 10", "lint": "echo"}.get(line, line))
+        others = {"largest": "largest 10", "lint": "echo", "last": "echo"}
+        asked = {"changes": "changes", "tests": "events " + argument}.get(command, others.get(line, line))
         reply = self.bench.ask(asked)
         if not self.is_done(reply, line):
             return
@@ -117,15 +125,14 @@ class Terminal(Desk):
         is_kept = encoded(word) in kept.read_lines(self.bench.words)
         return [short(word) + (" is removed, but %s still has it." % short(self.bench.words or "") if is_kept else " is removed.")]
 
-    def reply_mark(self, path: str, _: Sequence[str]) -> List[str]:
-        figures, changed = layout.figures(self.bench.changes), sum(row.kind == "changed" for row in self.bench.changes)
-        doubt = "Most stems differ. %s needs the stems alone, one on a line, in the order of the words, as approve writes them." % short(path)
-        return [doubt] * (2 * changed > self.bench.size) + [figures] if path else ["The mark is set: changes are counted from here."]
-
     def reply_changes(self, text: str, lines: Sequence[str]) -> List[str]:
         found = [row for row in rows.read("changes", lines) if any(text in name for name in rows.names_of(row))]
         all_of = "no change has %s" % short(text) if text and not found else layout.figures(found)
         return layout.changes(found, self.added(found)) + [all_of]
+
+    def reply_last(self, *_: object) -> List[str]:
+        figures = layout.figures(self.own, "") if self.own else "no word and no class"
+        return layout.changes(self.own, self.added(self.own)) + ["the last edit changed " + figures]
 
     def reply_lint(self, *_: object) -> List[str]:
         return [*warn.warnings_on(self.bench.script, self.bench.words), *lints.lints(self.bench, has_all=True)] or ["nothing was found"]
@@ -176,11 +183,26 @@ class Terminal(Desk):
     # Commands that are more than a request
 
     def do_help(self, name: str) -> None:
-        known = "{0.usage}: {0.does}. {0.more}".format(COMMANDS[name]).rstrip() if name in COMMANDS else ""
-        self.screen.say(*([known or words.unknown(name, self.bench)] if name else commands.overview()))
+        known = COMMANDS.get(name.partition(" ")[0])
+        said = "{0.usage}: {0.does}. {0.more}".format(known).rstrip() if known else words.no_command(name)
+        self.screen.say(*([said] if name else commands.overview()))
 
     def do_limit(self, _: str) -> None:
         self.screen.say("Each run may use {:,} steps. limit N sets another number.".format(int(self.bench.program.now.limit)))
+
+    def do_mark(self, path: str) -> None:
+        """Sets the mark, also by stems of fewer words: they are of the first ones, and the others count as they are."""
+        stems, outcomes = kept.read_lines(path), self.bench.outcomes()
+        new, whole, said = outcomes[len(stems) :] if stems else [], path, []  # type: List[rows.Outcome], str, List[str]
+        if new and all(row.kind == "stem" for row in new):
+            whole = self.bench.kept.keep("stems", b"\n".join([*stems, *(encoded(row.stem) for row in new)]))
+            size = counted(len(outcomes), "word")
+            said = ["%s has %s, and there are %s: the mark has the others as they are now." % (short(path), counted(len(stems), "line"), size)]
+        if self.is_done(self.bench.ask("mark " + whole if path else "mark"), "mark " + path):
+            figures, changed = layout.figures(self.bench.changes), sum(row.kind == "changed" for row in self.bench.changes)
+            doubt = "Most stems differ. %s needs the stems alone, one on a line, in the order of the words, as approve writes them." % short(path)
+            said += [doubt] * (2 * changed > self.bench.size) + [figures] if path else ["The mark is set: changes are counted from here."]
+            self.screen.say(*said)
 
     def do_add(self, text: str) -> None:
         parts, reply = text.split(), "one"

@@ -64,6 +64,8 @@ NOTES: Dict[str, str] = {
     "fault gone": "The fault is gone: {script} has the current script again.",
     "undone in file": "{script} still has what undo took back: Enter reads it again.",
     "the same script": "The script has this already, so undo does not count it.",
+    "limit": "Each run may use {limit} now.",
+    "the same limit": "Each run may use {limit} already, so undo does not count it.",
 }
 REFUSALS: Dict[str, str] = {
     "Slice": "delete, <- or -> found the left end of the slice right of its right end, or the right end beyond the limit. Look for a [ or ] that "
@@ -192,9 +194,8 @@ def amongs_of(line: str, bench: Stage) -> str:
 def unknown(line: str, bench: Stage) -> str:
     """The sentence for what is no command, or one that lacks something or has too much."""
     command, _, argument = line.partition(" ")
-    strange = next((said for begins, said in STRANGE if re.match(begins, line)), "")
-    if strange:
-        return strange.format(c=command, called=named(CALLED))
+    if strange(line):
+        return strange(line)
     if command in ("among", "uses"):
         (name, _, string), places = argument.partition(" "), bench.places()
         entry = is_string(string, places, name) if command == "uses" else ""
@@ -210,11 +211,23 @@ def unknown(line: str, bench: Stage) -> str:
         other = {"classes": "class WORD", "stems": "find TEXT", "counts": "uses NAME", "script": "show NAME"}.get(command, "")
         said = "%s takes nothing after it." % command + " For a part of it: %s." % other * bool(other)
         return "%s needs more: %s." % (command, COMMANDS[command].usage) if COMMANDS[command].takes else said
-    longer = [name for name in COMMANDS if name.startswith(command.casefold())] if command else []
     if line and bench.known("class " + line) is not None:
         return "%s is a word: why %s shows its way to its stem. help lists the commands." % (short(line), short(line))
+    return no_command(line)
+
+
+def strange(line: str) -> str:
+    """The sentence for a line that is another thing than a command; nothing if that is not known."""
+    said = next((said for begins, said in STRANGE if re.match(begins, line)), "")
+    return said.format(c=line.partition(" ")[0], called=named(CALLED))
+
+
+def no_command(line: str) -> str:
+    """The sentence for a line that begins with no command."""
+    command = line.partition(" ")[0]
+    longer = [name for name in COMMANDS if name.startswith(command.casefold())] if command else []
     question = meant(command, COMMANDS) or (" Did you mean %s?" % in_words(longer, "or") if 0 < len(longer) < 4 else "")
-    return "%s is not a command.%s help lists the commands." % (short(command or line.strip()), question)
+    return strange(line) or "%s is not a command.%s help lists the commands." % (short(command or line.strip()), question)
 
 
 def bad_file(line: str, bench: Stage) -> str:
