@@ -324,7 +324,7 @@ class Bench(Stage):
         return reply
 
     def write_anew(self) -> Reply:
-        """Writes SCRIPT, which is gone. (The program overwrites only what it has read: so it writes another file, which becomes SCRIPT and is read.)"""
+        """Writes SCRIPT, which is gone. (The program overwrites only what it has read: so it writes another file, which becomes SCRIPT.)"""
         target = os.path.realpath(self.script)
         try:
             with tempfile.TemporaryDirectory(dir=os.path.dirname(target)) as room:

@@ -73,7 +73,7 @@ class Desk:
         return self.wait(reply, before == self.files, warned)
 
     def wait(self, reply: Reply, is_same: bool, warned: int) -> bool:
-        """Shows why the program has ended, if not just one warning does. Returns whether `work` waits: a file has a fault that its author can correct."""
+        """Shows why the program has ended, if no single warning does. Returns whether `work` waits: a file has a fault that its author corrects."""
         bench, say, code = self.bench, self.screen.say, faults.code_of(reply.said)
         name = (bench.words if code in OF_WORDS else bench.script) or ""
         self.show_fault(reply.said)

@@ -26,6 +26,18 @@ TEXTS = ("script", "show", "echo", *ROWS)
 FIGURES = {"changes": 1, "last": 1, "families": 2}
 
 
+def tidy(line: str) -> str:
+    """Returns a line without the blanks that belong to no word."""
+    line = line.lstrip() if "".join(line.split()[:1]) in COMMANDS else line
+    line = line if line.partition(" ")[0] in WITH_TEXT else line.rstrip()
+    command, _, argument = {"exit": "quit", "?": "help"}.get(line, line).partition(" ")
+    if command not in COMMANDS or command in WITH_TEXT and command != "uses":
+        return line
+    # (TAB writes a blank after the command, and one types another)
+    argument = " ".join(argument.split()) if command == "among" else argument.lstrip()
+    return command + " " * bool(argument) + argument
+
+
 class Terminal(Desk):
     """The commands: do_NAME has what follows the command, if it is more than a request, reply_NAME also the lines of the reply."""
 
@@ -34,14 +46,8 @@ class Terminal(Desk):
 
     def answer(self, line: str) -> bool:
         """Answers a line; returns whether `work` goes on."""
-        line = line.lstrip() if line.split(None, 1)[:1] in [[name] for name in COMMANDS] else line
-        line = line if line.partition(" ")[0] in WITH_TEXT else line.rstrip()
-        line = {"exit": "quit", "?": "help"}.get(line, line)
+        line = tidy(line)
         command, _, argument = line.partition(" ")
-        if command in COMMANDS and (command == "uses" or command not in WITH_TEXT):
-            # (TAB writes a blank after the command, and one types another)
-            argument = " ".join(argument.split()) if command == "among" else argument.lstrip()
-            line = command + " " * bool(argument) + argument
         if line != self.doubted:
             self.doubted = ""
         if line == "quit":
@@ -146,11 +152,8 @@ class Terminal(Desk):
         shown = places.definition(name) or lines
         if not places.is_typed(name):
             return [place for place in [places.of(name)] if place] + shown
-        typed: List[str] = []
-        for row in typed_edits(self.bench.read("history")):
-            if row.rest[0] == name:
-                typed = [*(typed if row.command == "among" else []), layout.step_of(row)]
-        by = "typed at the prompt (%s), " % ", ".join(dict.fromkeys(typed)) if typed else ""
+        typed = dict.fromkeys(layout.step_of(row) for row in typed_edits(self.bench.read("history")) if row.rest[0] == name)
+        by = "typed at the prompt (%s), " % ", ".join(typed) if typed else ""
         return ["%snot in %s:" % (by, self.bench.script)] + shown
 
     def reply_families(self, path: str, lines: Sequence[str]) -> List[str]:
