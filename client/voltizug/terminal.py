@@ -152,8 +152,11 @@ class Terminal(Desk):
         shown = places.definition(name) or lines
         if not places.is_typed(name):
             return [place for place in [places.of(name)] if place] + shown
-        typed = dict.fromkeys(layout.step_of(row) for row in typed_edits(self.bench.read("history")) if row.rest[0] == name)
-        by = "typed at the prompt (%s), " % ", ".join(typed) if typed else ""
+        typed: List[str] = []
+        for row in typed_edits(self.bench.read("history")):
+            if row.rest[0] == name:
+                typed = [*(typed if row.command == "among" else []), layout.step_of(row)]
+        by = "typed at the prompt (%s), " % ", ".join(dict.fromkeys(typed)) if typed else ""
         return ["%snot in %s:" % (by, self.bench.script)] + shown
 
     def reply_families(self, path: str, lines: Sequence[str]) -> List[str]:
