@@ -87,8 +87,6 @@ class Stage:
 
 
 class Bench(Stage):
-    """A script and words at work."""
-
     def __init__(self, command: Sequence[str], script: str, words: Optional[str], kept: Kept):
         super().__init__(Program(command, script, words, kept.room), script, words)
         self.kept, self.is_waiting, self.size = kept, True, 0

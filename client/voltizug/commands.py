@@ -66,7 +66,6 @@ STRANGE: Sequence[Tuple[str, str]] = (
 
 
 def overview() -> List[str]:
-    """Returns the lines of help."""
     listed = [(group, [command.usage for command in part if command.name not in UNLISTED]) for group, part in GROUPS.items() if group != PROGRAMS]
     return [
         "An empty line reads the script again and shows what changed.",

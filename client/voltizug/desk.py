@@ -30,8 +30,6 @@ OF_WORDS: Dict[int, str] = {
 
 
 class Desk:
-    """The bench at a terminal."""
-
     def __init__(self, bench: Bench, options: Options):
         self.bench, self.options = bench, options
         self.completion = Completion(bench)
@@ -267,7 +265,6 @@ class Desk:
         return True
 
     def added(self, changes: Sequence[Any]) -> Dict[str, rows.Outcome]:
-        """Returns the outcomes of the words if some were added, by the words."""
         return self.bench.by_word() if any(row.kind == "added" for row in changes) else {}
 
     def turning(self, word: str) -> str:

@@ -30,7 +30,6 @@ def short(text: str) -> str:
 
 
 def columns(text: str) -> int:
-    """Returns how many columns of a terminal a text takes."""
     if text.isascii():
         return len(text) + 7 * text.count("\t")
     return sum(8 if c == "\t" else 0 if unicodedata.category(c) in ("Mn", "Me") else 1 + (unicodedata.east_asian_width(c) in "WF") for c in text)
@@ -70,7 +69,6 @@ def counted(count: int, one: str, many: str = "") -> str:
 
 
 def sizes(figures: Dict[str, int]) -> str:
-    """Returns how large a vocabulary is, by its figures."""
     return "{}, {}, {:,} refused".format(counted(figures["words"], "word"), counted(figures["classes"], "class", "classes"), figures["refused"])
 
 
@@ -160,7 +158,6 @@ def percent(part: int, whole: int) -> str:
 
 
 def families_line(pairs: Tuple[Any, ...]) -> str:
-    """Returns the figures of the families before and after an edit."""
     if not pairs:
         return ""
     parts, (before, now) = [], pairs
@@ -171,7 +168,6 @@ def families_line(pairs: Tuple[Any, ...]) -> str:
 
 
 def coloured(line: str) -> str:
-    """Returns a line with the colour of its kind."""
     word = line.split(" ", 3)[2] if line.startswith("  ") and line.count(" ") > 2 else ""
     colour = RED if "-> refused" in line else COLOURS.get(word)
     return "\x1b[%sm%s\x1b[0m" % (colour, line) if colour else line

@@ -83,7 +83,6 @@ class Refused(Exception):
 
 
 def sentence(reply: Reply, lines: Sequence[str], bench: Stage) -> str:
-    """Returns the sentence after a refused command."""
     code = (reply.refusal() or (0, ""))[0]
     if code in (47, 48) and len(lines) > 2:
         return "Nothing changed. The up arrow brings the lines of the block back."
@@ -266,7 +265,6 @@ def no_room(folder: str) -> str:
 
 
 def unreadable(path: str) -> str:
-    """Returns why a file cannot be read."""
     reasons = {errno.ENOENT: "there is no such file", errno.EISDIR: "it is a folder", errno.EACCES: "you may not read it"}
     try:
         # (a pipe that nobody writes to is not waited for)
