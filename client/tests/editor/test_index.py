@@ -3,6 +3,7 @@ import os
 import re
 import tempfile
 import unittest
+import unittest.mock
 
 from voltizug import language
 from voltizug.editor.index import AFTER, AS_COMMAND, AS_CONDITION, Index
@@ -117,6 +118,6 @@ class Names(Case):
         self.assertIn("NAME", fitting("stringescapes {} stringdef a' '\u00e9' define r as "))
 
     def test_what_is_sent_to_the_program_is_read_from_memory(self):
-        before = set(os.listdir(tempfile.gettempdir()))
-        self.judge.faults(Text("externals ( stem )"))
-        self.assertEqual(set(os.listdir(tempfile.gettempdir())) - before, set())
+        with unittest.mock.patch.object(tempfile, "tempdir", self.room()):
+            self.judge.faults(Text("externals ( stem )"))
+            self.assertEqual(os.listdir(tempfile.gettempdir()), [])
