@@ -70,4 +70,5 @@ def cases(suite: Iterable[Any]) -> Iterable[unittest.TestCase]:
 
 
 def load_tests(loader: unittest.TestLoader, _: Any, pattern: Optional[str]) -> unittest.TestSuite:
-    return Beside(loader.discover(os.path.dirname(__file__), pattern or "test*.py"))
+    folder = os.path.dirname(os.path.abspath(__file__))
+    return Beside(loader.discover(folder, pattern or "test*.py", os.path.dirname(folder)))

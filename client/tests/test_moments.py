@@ -13,7 +13,7 @@ from typing import Callable, List
 
 from .kit import Case, Terminal, alive
 
-MOMENTS, PLAYERS = int(os.environ.get("MOMENTS", "2000")), 4
+MOMENTS, PLAYERS = int(os.environ.get("MOMENTS", "2000")), 8
 # Within how many seconds a prompt is there again. (Other work on the machine can make a step long.)
 PATIENCE = 120
 GOOD = "externals ( stem )\nroutines ( r )\ndefine r as true\ndefine stem as do r\n"

@@ -2,9 +2,10 @@
 import os
 import time
 
-from voltizug import faults, layout, loops, near, options, reports, rows, warn, words
+from voltizug import layout, loops, near, options, reports, rows, warn, words
 from voltizug.bench import Edit
 from voltizug.conditions import Routine
+from voltizug.editor.judge import place_of
 from voltizug.editor.names import Names
 from voltizug.kept import Kept
 from voltizug.places import Places, line_and_column
@@ -18,6 +19,10 @@ class Layouts(Case):
         self.assertEqual(layout.broken("  one two three", 9), ["  one two", "      three"])
         self.assertEqual(layout.broken("Keys    one two three four five", 24), ["Keys    one two three", "        four five"])
         self.assertEqual(layout.broken("of 1,234,567 pairs, a,b", 10), ["of", "    1,234,567", "    pairs,", "    a,b"])
+        self.assertEqual(
+            layout.broken("a.sbl: not UTF-8. If it is Latin-1: iconv -f latin1 -t utf-8 a,b > NEW. Then: mv NEW a", 30),
+            ["a.sbl: not UTF-8. If it is", "    Latin-1:", "    iconv -f latin1 -t utf-8 a,b > NEW.", "    Then: mv NEW a"],
+        )
         self.assertEqual([layout.columns(text) for text in ("ab", "漢字", "e\u0301", "\t")], [2, 4, 1, 8])
         self.assertEqual([layout.cut("漢字漢字", 6), layout.cut("abcdef", 6), layout.cut("abcdefg", 6)], ["漢字..", "abcdef", "abcd.."])
 
@@ -77,9 +82,9 @@ class Loops(Case):
 class Others(Case):
     def test_the_place_of_a_fault(self):
         said = ["my.sbl:4:16: tale is not declared", "    define stem as tale", "                   ^^^^"]
-        self.assertEqual(faults.place_of(said, "my.sbl", "replace"), (4, 16, 4, "tale is not declared"))
-        self.assertEqual(faults.place_of(["replace:2:1: x", "my.sbl: y"], "my.sbl", "replace"), (2, 1, 0, "x"))
-        self.assertEqual(faults.place_of(["my.sbl: no external"], "my.sbl"), (0, 0, 0, "my.sbl: no external"))
+        self.assertEqual(place_of(said, "my.sbl", "replace"), (4, 16, 4, "tale is not declared"))
+        self.assertEqual(place_of(["replace:2:1: x", "my.sbl: y"], "my.sbl", "replace"), (2, 1, 0, "x"))
+        self.assertEqual(place_of(["my.sbl: no external"], "my.sbl"), (0, 0, 0, "my.sbl: no external"))
 
     def test_names_of_tokens(self):
         """Also of a text that is not ended: a definition ends at a bracket that it did not open, or where another item begins."""

@@ -26,8 +26,11 @@ class Sessions(Case):
         self.assertEqual((self.start.split("\n")[0], shown[-1], len(shown)), ("8 words, 3 classes, 0 refused", "3 words, 3 split since the mark", 7))
         self.assertRegex(terminal.enter("undo"), "^taken back(: routine plural)?; no word and no class differs from the mark$")
         shown = terminal.enter("redo", "limit 1").split("\n")
-        self.assertEqual((len(shown), shown[-3]), (7, '  .. and 4 more: "changes" shows all since the mark'))
+        self.assertEqual((len(shown), shown[-4], shown[-2]), (7, '  .. and 5 more: "last" shows all', "Each run may use 1 step now."))
         self.assertEqual(shown[-1], "this edit: 8 words, 8 of them refused; 8 words, 8 of them refused since the mark")
+        shown = terminal.enter("last").split("\n")
+        self.assertEqual((len(shown), shown[-1]), (9, "the last edit changed 8 words, 8 of them refused"))
+        self.assertEqual(terminal.enter("undo", "limit 100000", "last"), "the last edit changed no word and no class")
         self.assertIn("help COMMAND describes one", terminal.enter("help"))
         self.assertEqual(terminal.enter("help why"), "why WORD: why WORD has its stem. WORD need not be in the vocabulary.")
 
@@ -41,6 +44,23 @@ class Sessions(Case):
         self.assertIn("(plural)", terminal.enter("quit"))
         self.assertIn("taken back: the whole script; 3 words", terminal.enter("undo"))
         self.assertEqual(terminal.enter("save new.sbl"), "saved in new.sbl")
+
+    def test_a_typed_edit_that_makes_the_text_one_of_before(self):
+        """It is in no file, whatever SCRIPT had once: it is said by `quit`, and after a reload."""
+        terminal = self.begin()
+        terminal.save(AUTHOR.replace("hop 5", "hop 4"))
+        terminal.enter("", "routine long", "test hop 5", ".")
+        self.assertEqual(terminal.enter("script"), AUTHOR.rstrip("\n"))
+        self.assertEqual(terminal.enter("quit"), "The edits that you typed are in no file: save FILE keeps them, quit again drops them.")
+        terminal.save(AUTHOR.replace("hop 5", "hop 4") + "// new\n")
+        self.assertIn("put aside: long (undo brings it back)", terminal.enter(""))
+        self.assertEqual(
+            terminal.enter("quit"), "A reload has put aside what you typed (long), and no file has it: undo goes back to it, quit again drops it.",
+        )
+        terminal.save(AUTHOR)
+        terminal.enter("")
+        terminal.send("quit\r")
+        self.assertEqual(terminal.ended(), 0)
 
     def test_a_loop_is_located(self):
         terminal = self.begin(LOOP, "abc\n", program=FAKE)
@@ -269,6 +289,50 @@ define stem as backwards ( do r do s )
         self.assertIn("/dev/null is there already, and classes does not overwrite it", terminal.enter("classes > /dev/null", "classes > /dev/null"))
         self.assertEqual(terminal.enter("stats > state"), "state cannot be written: it is a folder. Name a file in it.")
 
+    def test_signs_and_rows_of_commands_that_are_no_reports(self):
+        terminal = self.begin()
+        self.assertEqual(terminal.enter("approve > x"), "approve takes the name of a file, without a sign before it: approve FILE.")
+        self.assertEqual(terminal.enter("mark | head"), "mark takes the name of a file, without a sign before it: mark [FILE].")
+        self.assertIn("There are no pipes here.", terminal.enter("tokens | head"))
+        self.assertEqual(terminal.enter("text > t.sbl"), "%d lines in t.sbl" % AUTHOR.count("\n"))
+        with open(os.path.join(self.folder, "t.sbl")) as file:
+            self.assertEqual(file.read(), AUTHOR)
+        self.assertEqual(terminal.enter("families > fam"), "families needs a file: families FILE > fam.")
+        terminal.save("glass glasses\n", "pairs")
+        self.assertIn("lines in fam", terminal.enter("families pairs > fam"))
+        self.assertIn("fam is there already", terminal.enter("families > fam"))
+        self.assertIn("lines in fam", terminal.enter("families > fam"))
+
+    def test_stems_of_the_day_before(self):
+        """They are the mark of the words that they have, also if others are added; and they can be written anew."""
+        terminal = self.begin()
+        terminal.save("new\nnew\nglass\n", "my.stems")
+        said = "my.stems has 3 lines, and there are 8 words: the mark has the others as they are now."
+        self.assertEqual(terminal.enter("mark my.stems").split("\n"), [said, "no word and no class differs from the mark"])
+        self.assertIn("1 word, 1 split since the mark", terminal.enter("among plural 1", "among ( 'es' (delete) 'ss' 's' () )", ".", "changes"))
+        again = "my.stems is there already. Nothing was written: the same line again overwrites it."
+        self.assertEqual(terminal.enter("approve my.stems"), again)
+        self.assertEqual(terminal.enter("approve my.stems"), "The stems are in my.stems.")
+        self.assertEqual(terminal.enter("mark my.stems"), "no word and no class differs from the mark")
+        terminal.save("x\n" * 9, "my.stems")
+        self.assertIn("has 9 lines, and there are 8 words: it needs a line for each word. The mark stays.", terminal.enter("mark my.stems"))
+
+    def test_the_one_warning_that_ends_the_start(self):
+        self.begin(words="\ufeffcats\n%s\ndogs \n" % ("x" * 300), columns=80)
+        said = "\nmy.words has a word of more than 255 characters. No other warning ends the start.\nCorrect it in my.words,"
+        self.assertIn(said, self.start.replace("\n    ", " "))
+        self.assertIn(" To take it away:\n    sed -i '1s/^\\xEF\\xBB\\xBF//' my.words\n", self.start)
+        self.begin(words="%s\ndogs\n" % ("x" * 300))
+        self.assertEqual(self.start.split("\n")[0], "my.words:1: more than 255 characters, which no word may have")
+        self.assertTrue(self.start.split("\n")[1].startswith("Correct it in my.words,"))
+
+    def test_help_while_the_script_has_a_fault(self):
+        terminal = self.begin("define")
+        self.assertIn("help COMMAND describes one", terminal.enter("help"))
+        self.assertTrue(terminal.enter("help save").startswith("save FILE: writes the current script"))
+        self.assertEqual(terminal.enter("help sav"), "sav is not a command. Did you mean save? help lists the commands.")
+        self.assertIn("no command runs yet", terminal.enter("stems"))
+
     def test_the_number_of_an_among_is_asked_for(self):
         terminal = self.begin(AUTHOR.replace("'ss' ()", "'ss' ( [ among ( 'x' (delete) ) ] )"))
         asked = terminal.type("among plural\r", rb"\? $").split("\n")[-1]
@@ -310,7 +374,9 @@ define stem as backwards ( do r do s )
     def test_blanks_before_a_name_or_a_number(self):
         terminal = self.begin()
         self.assertIn("univers: ", terminal.enter("largest  1"))
-        self.assertEqual(terminal.enter("limit  1000"), "no word and no class differs from the mark")
+        self.assertEqual(terminal.enter("limit  1000"), "Each run may use 1,000 steps now.\nno word and no class differs from the mark")
+        self.assertIn("univers: ", terminal.enter("  largest 1"))
+        self.assertEqual(terminal.enter("\x16\t class  glass"), '" glass" is not in the vocabulary. Did you mean glass?')
         self.assertIn("define plural as", terminal.enter("show  plural"))
         self.assertIn("3 words, 3 split", terminal.enter("among  plural  1", "among ( 'sss' )", "."))
 

@@ -87,8 +87,6 @@ class Stage:
 
 
 class Bench(Stage):
-    """A script and words at work."""
-
     def __init__(self, command: Sequence[str], script: str, words: Optional[str], kept: Kept):
         super().__init__(Program(command, script, words, kept.room), script, words)
         self.kept, self.is_waiting, self.size = kept, True, 0
@@ -230,6 +228,9 @@ class Bench(Stage):
         if word == "replace" and " " in command and not command.startswith("replace " + self.kept.folder):
             # (another file has this text)
             self.read_texts.add(hash(text))
+        elif word not in ("reload", "undo", "redo") and text not in (before.text, self.file_text):
+            # (it was typed, also if it is as one that was read before)
+            self.read_texts.discard(hash(text))
         self.changes = rows.read("changes", changes.lines)
         found = pairs_of(*pairs)
         figures, self.pairs = (*(self.pairs or found), *found) if found else (), found or self.pairs
@@ -246,7 +247,10 @@ class Bench(Stage):
             return "fault gone" if had_fault else "unchanged" if self.file_text == now.text else "same"
         if word == "undo" and before.text == self.file_text != now.text:
             return "undone in file"
-        return "the same script" if word not in ("undo", "redo", "reload") and (is_not_held or before == now) else ""
+        is_same = is_not_held or before == now
+        if word == "limit":
+            return "the same limit" if is_same else "limit"
+        return "the same script" if word not in ("undo", "redo", "reload") and is_same else ""
 
     def note_text(self, word: str, before: Moment, history: Sequence[Any]) -> Optional[Tuple[str, ...]]:
         """Notes which texts files have. Returns the names of the typed edits that a reload put aside."""
@@ -284,6 +288,8 @@ class Bench(Stage):
         is_report, is_own = command not in ("save", "approve", "append"), is_save and self.is_script(path)
         is_refused = self.refused_text is not None and self.refused_text == read_file(self.script)
         is_new = is_own or is_append or not is_there
+        # (what `save` or `approve` wrote, and nobody changed since, is overwritten; reports and stems can be made again)
+        is_other = not is_new and os.path.isfile(path) and (is_report or self.written.get(name) != state_of(path))
         return next((why for why, is_so in (
             ("words", is_list and not is_append),
             ("script", self.is_script(path) and not is_save),
@@ -294,9 +300,10 @@ class Bench(Stage):
             ("gone", is_append and path == self.words and not os.path.lexists(path)),
             ("refused?", is_own and is_refused),
             ("undone?", is_own and self.is_older and self.script not in self.saved()),
-            ("again?", is_report and os.path.isfile(path)),
-            ("there", not is_new and (is_report or os.path.isfile(path) and name not in self.written)),
-            ("others", not is_new and os.path.isfile(path) and self.written.get(name) != state_of(path)),
+            ("there", not is_new and is_report and not os.path.isfile(path)),
+            ("again?", is_other and not is_save),
+            ("there", is_other and name not in self.written),
+            ("others", is_other),
         ) if is_so), "")
 
     def write(self, command: str, path: str) -> Reply:
@@ -315,7 +322,7 @@ class Bench(Stage):
         return reply
 
     def write_anew(self) -> Reply:
-        """Writes SCRIPT, which is gone. (The program overwrites only what it has read: so it writes another file, which becomes SCRIPT and is read.)"""
+        """Writes SCRIPT, which is gone. (The program overwrites only what it has read: so it writes another file, which becomes SCRIPT.)"""
         target = os.path.realpath(self.script)
         try:
             with tempfile.TemporaryDirectory(dir=os.path.dirname(target)) as room:

@@ -34,9 +34,10 @@ NAMED = {"routine": ["routine"], "among": ["routine"], "grouping": ["grouping"],
 LANGUAGE = [name for name in COMMANDS if name in RESERVED]
 # A blank at the end of these may belong to a word.
 WITH_TEXT = [name for name, command in COMMANDS.items() if command.takes in ("WORD", "TEXT", "STEM", "NAME [K [STRING")]
-# Reports: they can be written to a file by > FILE, and have a pager.
-REPORTING = "changes class classes counts events families find history integers largest lint script show stats stem stems".split()
-REPORTING += "tests trace unused uses why".split()
+# Reports: they can be written to a file by > FILE, and have a pager. Rows for programs are some.
+ROWS = "events faults figures places text tokens".split()
+REPORTING = "changes class classes counts families find history integers largest last lint script show stats stem stems".split()
+REPORTING += ["tests", "trace", "unused", "uses", "why", *ROWS]
 # How a comment and a declaration of a script begin.
 COMMENT, DECLARATION = r"\s*(//|/\*)", r"(%s)( |\Z)" % "|".join(word for word in ITEMS if word != "define")
 # By the beginning of a line that is no command what is said of it. {c} is its first word.
@@ -61,12 +62,10 @@ STRANGE: Sequence[Tuple[str, str]] = (
     (r"\s*[\[\](')]", "This is no command, but of a script, perhaps, and no block is open: routine NAME, among NAME K or grouping NAME opens one."),
     (r"define( |\Z)", "A definition begins with define NAME as, or define NAME and the terms of a grouping, in one line."),
     (DECLARATION, "This looks like a script. replace takes a whole one, up to a line with a single point."),
-    (r"\s+(%s)( |\Z)" % "|".join(COMMANDS), "A command begins at the beginning of the line."),
 )
 
 
 def overview() -> List[str]:
-    """Returns the lines of help."""
     listed = [(group, [command.usage for command in part if command.name not in UNLISTED]) for group, part in GROUPS.items() if group != PROGRAMS]
     return [
         "An empty line reads the script again and shows what changed.",

@@ -41,7 +41,6 @@ class Completion:
         return [string for *among, string in places.entries if is_string and among == words[:2] and " " not in string]
 
     def words(self, text: str, is_stem: bool) -> Iterable[str]:
-        """Returns the words or stems without blanks that have a text in them."""
         lines = self.bench.known("find " + text) if text and " " not in text else None
         found = {row.stem if is_stem else row.word for row in rows.outcomes(lines or []) if row.kind == "stem" or not is_stem}
         return [name for name in found if " " not in name]

@@ -111,7 +111,6 @@ class Routine:
 
 
 def routines_of(places: Places) -> List[Routine]:
-    """Returns the routines of a script with their tests."""
     names = places.of_kind("routine")
     return [Routine(name, places.part(name), names) for name in names]
 

@@ -30,8 +30,6 @@ OF_WORDS: Dict[int, str] = {
 
 
 class Desk:
-    """The bench at a terminal."""
-
     def __init__(self, bench: Bench, options: Options):
         self.bench, self.options = bench, options
         self.completion = Completion(bench)
@@ -39,6 +37,8 @@ class Desk:
         self.screen = Screen(self.editor, options.color, options.has_pager)
         # Warnings that were given, and lints; lines in a row that are no command; whether WORDS was saved since it was read.
         self.warned, self.linted, self.nonsense, self.has_old_words = [], [], 0, False  # type: List[str], List[str], int, bool
+        # What the last edit changed.
+        self.own: List[Any] = []
         # The files and what they had; whether `work` has waited for one without its fault; the status with which it ends.
         self.paths = [path for path in (bench.script, bench.words) if path]
         self.files: Sequence[Optional[bytes]] = ()
@@ -55,7 +55,7 @@ class Desk:
         """Has the files read, and shows figures; if one has a fault, shows it. Returns whether `work` goes on: it is open, or waits."""
         bench, before = self.bench, self.files
         self.files = [kept.read_file(path) for path in self.paths]
-        is_warned = not self.looks_swapped() and self.warn(bench.words)
+        warned = 0 if self.looks_swapped() else self.warn(bench.words)
         reply = bench.open()
         if reply.is_done and bench.program.rows != ROWS:
             self.screen.say("The program writes rows %s, and this client knows rows %s: they are not of one version." % (bench.program.rows, ROWS))
@@ -68,15 +68,15 @@ class Desk:
             self.status = self.status if self.has_waited else INTERRUPTED
             self.screen.say("It was broken off. %s quit or Ctrl-D ends." % self.correction(bench.script) if self.has_waited else "")
             return self.has_waited
-        return self.wait(reply, before == self.files, is_warned)
+        return self.wait(reply, before == self.files, warned)
 
-    def wait(self, reply: Reply, is_same: bool, is_warned: bool) -> bool:
-        """Shows why the program has ended, if no warning does. Returns whether `work` waits: a file has a fault that its author can correct."""
+    def wait(self, reply: Reply, is_same: bool, warned: int) -> bool:
+        """Shows why the program has ended, if no single warning does. Returns whether `work` waits: a file has a fault that its author corrects."""
         bench, say, code = self.bench, self.screen.say, faults.code_of(reply.said)
         name = (bench.words if code in OF_WORDS else bench.script) or ""
         self.show_fault(reply.said)
-        if code == 44 or code in OF_WORDS and not is_warned:
-            say(OF_WORDS[code].format(name=short(name), quoted=words.in_shell(name)))
+        if code == 44 or code in OF_WORDS and warned != 1:
+            say(OF_WORDS[code].format(name=short(name), quoted=words.in_shell(name)) + " No other warning ends the start." * (warned > 1))
         if not reply.said:
             status = bench.program.stop()
             say("The program ended at the start, with status %s." % status if reply.state != DONE else words.SENTENCES[49])
@@ -193,8 +193,7 @@ class Desk:
         self.show_fault(reply.said, lines)
         said = words.sentence(reply, lines, self.bench)
         if lines[0] == "reload":
-            # (of a text that is not UTF-8 the program has said what it may be)
-            self.warn() if name != "NotUtf8" else None
+            self.warn()
             said = "Nothing changed. " + self.correction(self.bench.script) if code == 48 else said
         elif code == 48 and not reply.said:
             # (a fault of the whole script has no line)
@@ -229,12 +228,14 @@ class Desk:
         known.subtract(VARYING.sub("", line) for line in self.linted)
         return [line for line in self.linted if known[VARYING.sub("", line)] < 0]
 
-    def warn(self, path: Optional[str] = None) -> bool:
-        """Gives the warnings on the script, and on a list of words, that were not given before. Returns whether there is one."""
-        found = [line for line in warn.warnings_on(self.bench.script, path) if line not in self.warned]
+    def warn(self, path: Optional[str] = None) -> int:
+        """Gives the warnings on the script, and on a list of words, that were not given before. Returns how many. (The program says itself that
+        a script is not UTF-8.)"""
+        of_script = [line for line in warn.on_file(self.bench.script, False) if warn.NOT_UTF8[1] not in line]
+        found = [line for line in of_script + (warn.on_file(path, True) if path else []) if line not in self.warned]
         self.warned += found
-        self.screen.write(found, is_text=True)
-        return bool(found)
+        self.screen.write(found)
+        return len(found)
 
     # Edits
 
@@ -251,20 +252,20 @@ class Desk:
             return False
         if is_reload:
             self.warn()
-        own = edit.changes if edit.own is None else edit.own
+        self.own = own = edit.changes if edit.own is None else edit.own
         refused = [row for row in own if row.kind == "changed" and row.new_kind == "refused"]
         worst = next((row.word for row in refused if row.new in loops.NAMES), refused[0].word if refused else "")
         tail = [*(self.new_lints() if is_reload or edit.command in (*BLOCKS, *OPEN_BLOCKS) else []), self.ending(worst) if refused else ""]
-        note = words.NOTES.get(edit.note, "").format(script=short(self.bench.script))
+        limit = counted(int(self.bench.program.now.limit), "step")
+        note = words.NOTES.get(edit.note, "").format(script=short(self.bench.script), limit=limit)
         last = self.screen.broken([line for line in [*tail, note, self.note_words(), layout.families_line(edit.pairs), layout.summary(edit)] if line])
         size = self.screen.size()
         room = max(1, size.lines - len(last) - 1 - self.editor.rows_typed(size.columns))
-        found = layout.changes(own, self.added(own), room, '"changes" shows all' + " since the mark" * (own is not edit.changes))
+        found = layout.changes(own, self.added(own), room, '"last" shows all')
         self.screen.write([layout.cut(layout.named(line), size.columns) for line in found] + last)
         return True
 
     def added(self, changes: Sequence[Any]) -> Dict[str, rows.Outcome]:
-        """Returns the outcomes of the words if some were added, by the words."""
         return self.bench.by_word() if any(row.kind == "added" for row in changes) else {}
 
     def ending(self, word: str) -> str:

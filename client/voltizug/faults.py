@@ -1,6 +1,6 @@
 """What the program says about a fault, fitted to a window, with columns as an editor counts them, names of files, and advice."""
 import re
-from typing import Any, List, NamedTuple, Optional, Sequence, Tuple
+from typing import Any, List, Optional, Sequence, Tuple
 
 from .language import ITEMS
 from .layout import named, short
@@ -10,8 +10,6 @@ from .rows import Token
 from .words import converting, in_shell, unreadable
 
 INDENT = "    "
-# What follows the name of a file: line, column and sentence.
-PLACE = re.compile(r":(\d+):(\d+): (.*)", re.S)
 CANNOT_BE_READ = re.compile(r"snowbench: (.+): [^:]+ \(os error \d+\)")
 CODE = re.compile(r"snowbench: (\d+) (\w+)")
 # What is said of a script without an external; what of `non` and a grouping in one word, if no other name is near it.
@@ -26,25 +24,9 @@ def code_of(said: Sequence[str]) -> int:
     return int(found[1]) if found else 0
 
 
-class Place(NamedTuple):
-    """Where a fault is, how many characters it has, and its sentence; zeros if it is of the whole text."""
-
-    line: int
-    column: int
-    length: int
-    sentence: str
-
-
-def place_of(said: Sequence[str], *names: str) -> Place:
-    """Returns the place of the first fault in what is said of a file with one of these names."""
-    found = [PLACE.match(line[len(name) :]) for line in said for name in names if line.startswith(name + ":")]
-    place = next(filter(None, found), None)
-    carets = next((line for line in said if line.strip() and not line.strip("^ ")), "")
-    return Place(int(place[1]), int(place[2]), carets.count("^"), place[3]) if place else Place(0, 0, 0, " ".join(said))
-
-
 def shown(
-    said: Sequence[str], script: str, text: Optional[bytes], width: int, tokens: Sequence[Token] = (), typed: Optional[Tuple[bytes, Sequence[Token]]] = None
+    said: Sequence[str], script: str, text: Optional[bytes], width: int, tokens: Sequence[Token] = (),
+    typed: Optional[Tuple[bytes, Sequence[Token]]] = None,
 ) -> List[str]:
     """Returns the lines on a fault, and the line of the text with carets cut to the window. Tokens are those of the script, if they are needed;
     `typed` is a block, if that was refused, with its tokens."""

@@ -202,7 +202,6 @@ class Editor:
 
     @staticmethod
     def has_key() -> bool:
-        """Whether a key is there already."""
         return bool(select.select([0], [], [], 0)[0])
 
     def rows_typed(self, columns: int) -> int:

@@ -14,6 +14,9 @@ HIDDEN = re.compile("[\0-\x08\n-\x1f\x7f-\x9f\ud800-\udfff\u061c\u200b\u200e\u20
 LONGEST, COLUMN = 60, 24
 # A label at the beginning of a line, as in help.
 LABEL = re.compile(r"\S+( \S+)* {2,}")
+# A command of a shell; and what is in the place of its blanks and commas while a line is broken.
+SHELL = re.compile(r"(?<=: )(?:awk|cut|gzip|iconv|mv|sed|shuf|tr|uconv) .*?(?: > NEW\b|$)")
+HELD, RELEASED = str.maketrans(" ,", "\0\1"), str.maketrans("\0\1", " ,")
 
 
 def named(text: str) -> str:
@@ -27,7 +30,6 @@ def short(text: str) -> str:
 
 
 def columns(text: str) -> int:
-    """Returns how many columns of a terminal a text takes."""
     if text.isascii():
         return len(text) + 7 * text.count("\t")
     return sum(8 if c == "\t" else 0 if unicodedata.category(c) in ("Mn", "Me") else 1 + (unicodedata.east_asian_width(c) in "WF") for c in text)
@@ -38,16 +40,17 @@ def padded(text: str, column: int) -> str:
 
 
 def broken(line: str, width: int) -> List[str]:
-    """Returns a line as lines that fit: broken at blanks and commas, but not in a number; the others are indented, or below what follows a label."""
+    """Returns a line as lines that fit: broken at blanks and commas, but not in a number, and not in a command that is to be copied: the terminal
+    does that. The others are indented, or below what follows a label."""
     if columns(line) <= width:
         return [line]
     label = LABEL.match(line)
     hang = " " * label.end() if label and label.end() <= width // 3 else line[: len(line) - len(line.lstrip())] + "    "
     lines = [""]
-    for part in re.split(r"(?<=[ ,])(?! |(?<=\d,)\d)", line):
+    for part in re.split(r"(?<=[ ,])(?! |(?<=\d,)\d)", SHELL.sub(lambda found: found[0].translate(HELD), line)):
         if lines[-1].strip() and columns(lines[-1] + part.rstrip()) > width:
             lines[-1:] = [lines[-1].rstrip(), hang]
-        lines[-1] += part
+        lines[-1] += part.translate(RELEASED)
     return lines
 
 
@@ -66,7 +69,6 @@ def counted(count: int, one: str, many: str = "") -> str:
 
 
 def sizes(figures: Dict[str, int]) -> str:
-    """Returns how large a vocabulary is, by its figures."""
     return "{}, {}, {:,} refused".format(counted(figures["words"], "word"), counted(figures["classes"], "class", "classes"), figures["refused"])
 
 
@@ -156,7 +158,6 @@ def percent(part: int, whole: int) -> str:
 
 
 def families_line(pairs: Tuple[Any, ...]) -> str:
-    """Returns the figures of the families before and after an edit."""
     if not pairs:
         return ""
     parts, now = [], pairs[1]
@@ -171,7 +172,6 @@ def families_line(pairs: Tuple[Any, ...]) -> str:
 
 
 def coloured(line: str) -> str:
-    """Returns a line with the colour of its kind."""
     word = line.split(" ", 3)[2] if line.startswith("  ") and line.count(" ") > 2 else ""
     colour = RED if "-> refused" in line else COLOURS.get(word)
     return "\x1b[%sm%s\x1b[0m" % (colour, line) if colour else line

@@ -31,7 +31,6 @@ class Places:
         return self.definitions[name].kind if name in self.definitions else ""
 
     def count(self, name: str) -> int:
-        """Returns how many amongs a definition has."""
         return sum(name == other for other, _ in self.amongs)
 
     def of(self, name: str, k: str = "", string: Optional[str] = None) -> str:

@@ -198,16 +198,6 @@ class Program:
         return all(reply.is_done or reply.lines in (["no 40 Present"], ["no 41 Absent"]) for reply in replies)
 
 
-def comparison(program: str, words: Sequence[str], seconds: Optional[float] = None) -> Tuple[List[str], List[str]]:
-    """Returns the rows of `compare` with these words after it; of what cannot be compared none, and what the program says then."""
-    command, pipe = [program, "compare", "--rows", *words], subprocess.PIPE
-    ended = subprocess.run(command, stdin=subprocess.DEVNULL, stdout=pipe, stderr=pipe, check=False, pass_fds=in_memory(words), timeout=seconds)
-    if ended.returncode in (0, 1) and ended.stdout:
-        return lines_of(ended.stdout), []
-    said = ended.stderr.decode("utf-8", "surrogateescape").splitlines()
-    return [], said or ["snowbench: the program ended with status %d" % ended.returncode]
-
-
 def in_memory(words: Sequence[str]) -> List[int]:
     """Returns the numbers of the open files that words of a command name."""
     return [int(name[8:]) for name in words if re.fullmatch("/dev/fd/[0-9]+", name) and os.path.exists(name)]

@@ -81,7 +81,6 @@ def counts(lines: Sequence[str], places: Places) -> List[str]:
 
 
 def placed(found: Sequence[Tuple[str, str]]) -> List[str]:
-    """Returns lines with their places."""
     return ["  " + what + ("   " + named(place) if place else "") for what, place in found]
 
 
@@ -153,7 +152,6 @@ def why(word: str, events: Sequence[Any], figures: Sequence[Any], places: Places
 
 
 def returned(calls: List[Call], is_true: bool, places: Places) -> List[Line]:
-    """Returns the lines on a routine that ends."""
     call, shown = calls.pop(), []  # type: Call, List[Line]
     is_failed = call.acts and not is_true
     if calls and is_failed and call.test and call.test.signal == "f" and call.test.is_plain:

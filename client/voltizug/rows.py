@@ -88,7 +88,6 @@ def by_kind(found: Iterable[Any]) -> Dict[str, List[Any]]:
 
 
 def figures(lines: Iterable[str]) -> Dict[str, int]:
-    """Returns the figures of `stats` by their names."""
     return {row.kind: int(row.count) for row in read("stats", lines)}
 
 

@@ -31,8 +31,7 @@ class Screen:
 
     def broken(self, lines: Sequence[str]) -> List[str]:
         width = self.size().columns
-        # (a command that is to be copied is not broken: the terminal does that)
-        return [part for line in lines for part in (layout.broken(layout.named(line), width) if " > NEW" not in line else [layout.named(line)])]
+        return [part for line in lines for part in layout.broken(layout.named(line), width)]
 
     def write(self, lines: Sequence[str], is_report: bool = False, is_text: bool = False, last: int = 0) -> None:
         """Writes lines; those of a text are not broken. A report may go to the pager; so many figures at its end come after that."""

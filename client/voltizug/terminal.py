@@ -9,7 +9,7 @@ from typing import Any, List, Sequence, Tuple
 
 from . import commands, kept, layout, lints, loops, options, reports, rows, screen, warn, words
 from .bench import Bench, typed_edits
-from .commands import BLOCKS, COMMANDS, LANGUAGE, OPEN_BLOCKS, REPORTING, WITH_TEXT
+from .commands import BLOCKS, COMMANDS, LANGUAGE, OPEN_BLOCKS, REPORTING, ROWS, WITH_TEXT
 from .conditions import with_tests
 from .desk import Desk
 from .keys import Broken, Dropped, Hangup
@@ -21,9 +21,21 @@ DEFINITION = re.compile(r"\s*define\s+([A-Za-z][A-Za-z0-9_]*)\s+(as(?=\s|$))?")
 TO_FILE = re.compile(r"(.*\S)\s+>\s*(\S+)\s*\Z")
 USAGE = "usage: %s work [--watch] [--rows | --text] [--color WHEN] [--no-pager] [--external NAME] [--from TEXT] [--stop FILE] SCRIPT [WORDS]" % options.CALLED
 # Replies that are not broken, since an author wrote them.
-TEXTS = ("script", "show", "echo", "events")
+TEXTS = ("script", "show", "echo", *ROWS)
 # By report how many of its last lines are figures.
-FIGURES = {"changes": 1, "families": 2}
+FIGURES = {"changes": 1, "last": 1, "families": 2}
+
+
+def tidy(line: str) -> str:
+    """Returns a line without the blanks that belong to no word."""
+    line = line.lstrip() if "".join(line.split()[:1]) in COMMANDS else line
+    line = line if line.partition(" ")[0] in WITH_TEXT else line.rstrip()
+    command, _, argument = {"exit": "quit", "?": "help"}.get(line, line).partition(" ")
+    if command not in COMMANDS or command in WITH_TEXT and command != "uses":
+        return line
+    # (TAB writes a blank after the command, and one types another)
+    argument = " ".join(argument.split()) if command == "among" else argument.lstrip()
+    return command + " " * bool(argument) + argument
 
 
 class Terminal(Desk):
@@ -34,13 +46,8 @@ class Terminal(Desk):
 
     def answer(self, line: str) -> bool:
         """Answers a line; returns whether `work` goes on."""
-        line = line if line.partition(" ")[0] in WITH_TEXT else line.rstrip()
-        line = {"exit": "quit", "?": "help"}.get(line, line)
+        line = tidy(line)
         command, _, argument = line.partition(" ")
-        if command in COMMANDS and (command == "uses" or command not in WITH_TEXT):
-            # (TAB writes a blank after the command, and one types another)
-            argument = " ".join(argument.split()) if command == "among" else argument.lstrip()
-            line = command + " " * bool(argument) + argument
         if line != self.doubted:
             self.doubted = ""
         if line == "quit":
@@ -49,11 +56,13 @@ class Terminal(Desk):
             return True
         if self.bench.is_waiting and line in ("", "reload"):
             self.open()
-        elif self.bench.is_waiting:
+        elif self.bench.is_waiting and command != "help":
             then = " and save it" if self.options.is_watching else ", save it, and press Enter"
             self.screen.say("A file has a fault, so no command runs yet. Correct it there%s. quit or Ctrl-D ends." % then)
         elif len(encoded(line)) > LONGEST:
             self.screen.say(words.SENTENCES[72])
+        elif command in COMMANDS and COMMANDS[command].takes == "FILE" and re.match("[<>|]", argument) and command not in REPORTING:
+            self.screen.say("%s takes the name of a file, without a sign before it: %s." % (command, COMMANDS[command].usage))
         elif line == "families" and self.bench.families and not self.editor.pending:
             self.ask("families " + self.bench.families)
         elif line in ("", "reload", "undo", "redo") or command in ("limit", "replace") and argument:
@@ -76,6 +85,10 @@ class Terminal(Desk):
     def ask(self, line: str) -> None:
         found = TO_FILE.match(line) if line.partition(" ")[0] in REPORTING else None
         typed, (line, path) = line, found.groups() if found else (line, "")
+        if line == "families" and not self.bench.families:
+            self.screen.say("families needs a file: families FILE > %s." % short(path))
+            return
+        line = "families " + self.bench.families if line == "families" else line
         command, _, argument = line.partition(" ")
         is_alone = argument in (">", ">>", "|") and command in COMMANDS and not COMMANDS[command].takes
         is_piped = " | " in " " + argument or " >> " in " " + argument or argument.endswith(" >") or is_alone
@@ -84,7 +97,8 @@ class Terminal(Desk):
             return
         # (a string may be typed as it is shown)
         line = re.sub(r"\A(uses \S+ [0-9]+) '(.*)'\Z", r"\1 \2", line)
-        asked = {"changes": "changes", "tests": "events " + argument}.get(command, {"largest": "largest 10", "lint": "echo"}.get(line, line))
+        others = {"largest": "largest 10", "lint": "echo", "last": "echo"}
+        asked = {"changes": "changes", "tests": "events " + argument}.get(command, others.get(line, line))
         reply = self.bench.ask(asked)
         if not self.is_done(reply, line):
             return
@@ -117,15 +131,14 @@ class Terminal(Desk):
         is_kept = encoded(word) in kept.read_lines(self.bench.words)
         return [short(word) + (" is removed, but %s still has it." % short(self.bench.words or "") if is_kept else " is removed.")]
 
-    def reply_mark(self, path: str, _: Sequence[str]) -> List[str]:
-        figures, changed = layout.figures(self.bench.changes), sum(row.kind == "changed" for row in self.bench.changes)
-        doubt = "Most stems differ. %s needs the stems alone, one on a line, in the order of the words, as approve writes them." % short(path)
-        return [doubt] * (2 * changed > self.bench.size) + [figures] if path else ["The mark is set: changes are counted from here."]
-
     def reply_changes(self, text: str, lines: Sequence[str]) -> List[str]:
         found = [row for row in rows.read("changes", lines) if any(text in name for name in rows.names_of(row))]
         all_of = "no change has %s" % short(text) if text and not found else layout.figures(found)
         return layout.changes(found, self.added(found)) + [all_of]
+
+    def reply_last(self, *_: object) -> List[str]:
+        figures = layout.figures(self.own, "") if self.own else "no word and no class"
+        return layout.changes(self.own, self.added(self.own)) + ["the last edit changed " + figures]
 
     def reply_lint(self, *_: object) -> List[str]:
         return [*warn.warnings_on(self.bench.script, self.bench.words), *lints.lints(self.bench, has_all=True)] or ["nothing was found"]
@@ -176,11 +189,26 @@ class Terminal(Desk):
     # Commands that are more than a request
 
     def do_help(self, name: str) -> None:
-        known = "{0.usage}: {0.does}. {0.more}".format(COMMANDS[name]).rstrip() if name in COMMANDS else ""
-        self.screen.say(*([known or words.unknown(name, self.bench)] if name else commands.overview()))
+        known = COMMANDS.get(name.partition(" ")[0])
+        said = "{0.usage}: {0.does}. {0.more}".format(known).rstrip() if known else words.no_command(name)
+        self.screen.say(*([said] if name else commands.overview()))
 
     def do_limit(self, _: str) -> None:
         self.screen.say("Each run may use {:,} steps. limit N sets another number.".format(int(self.bench.program.now.limit)))
+
+    def do_mark(self, path: str) -> None:
+        """Sets the mark, also by stems of fewer words: they are of the first ones, and the others count as they are."""
+        stems, outcomes = kept.read_lines(path), self.bench.outcomes()
+        new, whole, said = outcomes[len(stems) :] if stems else [], path, []  # type: List[rows.Outcome], str, List[str]
+        if new and all(row.kind == "stem" for row in new):
+            whole = self.bench.kept.keep("stems", b"\n".join([*stems, *(encoded(row.stem) for row in new)]))
+            size = counted(len(outcomes), "word")
+            said = ["%s has %s, and there are %s: the mark has the others as they are now." % (short(path), counted(len(stems), "line"), size)]
+        if self.is_done(self.bench.ask("mark " + whole if path else "mark"), "mark " + path):
+            figures, changed = layout.figures(self.bench.changes), sum(row.kind == "changed" for row in self.bench.changes)
+            doubt = "Most stems differ. %s needs the stems alone, one on a line, in the order of the words, as approve writes them." % short(path)
+            said += [doubt] * (2 * changed > self.bench.size) + [figures] if path else ["The mark is set: changes are counted from here."]
+            self.screen.say(*said)
 
     def do_add(self, text: str) -> None:
         parts, reply = text.split(), "one"
@@ -211,13 +239,13 @@ class Terminal(Desk):
 
     def may_write(self, line: str, path: str) -> bool:
         """Whether a command may write to a file; otherwise says why not. What is only doubtful is done if the line is typed again."""
-        command, is_again, self.doubted = line.partition(" ")[0], self.doubted == line, line
+        command = line.partition(" ")[0]
         why = self.bench.may_write(command, path)
-        if not why or why.endswith("?") and is_again:
-            self.doubted = ""
-            return True
-        self.screen.say(words.may_not(why, command, path, "" if self.options.is_watching else " and press Enter"))
-        return False
+        said = words.may_not(why, command, path, "" if self.options.is_watching else " and press Enter") if why else ""
+        if why and not why.endswith("?"):
+            self.screen.say(said)
+            return False
+        return self.is_sure(line, said)
 
     def comments(self, path: str) -> int:
         lines = self.bench.known("tokens " + path) if os.path.isfile(path) else None
@@ -233,10 +261,7 @@ class Terminal(Desk):
 
     def do_words(self, _: str) -> None:
         before, doubt = self.bench.by_word(), self.unkept_words(", words again drops {}") if self.bench.words else ""
-        if doubt and self.doubted != "words":
-            self.doubted = "words"
-            self.screen.say(doubt)
-        elif self.is_done(self.bench.ask("words"), "words"):
+        if self.is_sure("words", doubt) and self.is_done(self.bench.ask("words"), "words"):
             self.has_old_words = False
             self.warn(self.bench.words)
             now = self.bench.by_word()
@@ -330,16 +355,21 @@ class Terminal(Desk):
     def may_end(self) -> bool:
         """Whether `work` ends: the first time it does not if something would be lost."""
         bench = self.bench
-        if self.doubted == "quit" or bench.is_waiting:
+        if bench.is_waiting:
             return True
         doubts, aside = [self.unkept_words(", quit again drops {}")], in_words(bench.put_aside() or [""], "and", 5)
         if bench.is_unsaved(bench.program.now.text):
             doubts.insert(0, "The edits that you typed are in no file: save FILE keeps them, quit again drops them.")
         elif aside:
             doubts.insert(0, "A reload has put aside what you typed (%s), and no file has it: undo goes back to it, quit again drops it." % aside)
-        self.doubted = "quit" if any(doubts) else ""
-        self.screen.say(*doubts)
-        return not any(doubts)
+        return self.is_sure("quit", *doubts)
+
+    def is_sure(self, line: str, *doubts: str) -> bool:
+        """Whether nothing speaks against a command, or it is typed again; otherwise says what does."""
+        is_sure = self.doubted == line or not any(doubts)
+        self.doubted = "" if is_sure else line
+        self.screen.say(*([] if is_sure else doubts))
+        return is_sure
 
     def unkept_words(self, then: str = "") -> str:
         """Returns the sentence on words that were added and that no file has; nothing if there are none."""

@@ -40,7 +40,6 @@ BETWEEN = (
 
 
 def on_lines(name: str, path: str, text: str, kind: Kind) -> List[str]:
-    """Returns the warning on the lines of a kind."""
     condition, what, then = kind
     found = [number for number, line in enumerate(text.split("\n"), 1) if condition(line)] if condition(text) else []
     return on_numbers(name, path, found, what, then)
@@ -108,7 +107,6 @@ def on_file(path: str, is_list: bool) -> List[str]:
 
 
 def warnings_on(script: str, words: Optional[str] = None) -> List[str]:
-    """Returns the warnings on a script and, if there is one, a list of words."""
     return on_file(script, False) + (on_file(words, True) if words else [])
 
 

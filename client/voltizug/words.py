@@ -11,6 +11,7 @@ from .commands import COMMANDS, NAMED, OPEN_BLOCKS, STRANGE
 from .kept import is_same, read_file, read_lines
 from .layout import counted, in_words, named, short
 from .near import folded, meant, near
+from .places import Places
 from .options import CALLED
 from .program import Reply, encoded
 
@@ -63,6 +64,8 @@ NOTES: Dict[str, str] = {
     "fault gone": "The fault is gone: {script} has the current script again.",
     "undone in file": "{script} still has what undo took back: Enter reads it again.",
     "the same script": "The script has this already, so undo does not count it.",
+    "limit": "Each run may use {limit} now.",
+    "the same limit": "Each run may use {limit} already, so undo does not count it.",
 }
 REFUSALS: Dict[str, str] = {
     "Slice": "delete, <- or -> found the left end of the slice right of its right end, or the right end beyond the limit. Look for a [ or ] that "
@@ -80,7 +83,6 @@ class Refused(Exception):
 
 
 def sentence(reply: Reply, lines: Sequence[str], bench: Stage) -> str:
-    """Returns the sentence after a refused command."""
     code = (reply.refusal() or (0, ""))[0]
     if code in (47, 48) and len(lines) > 2:
         return "Nothing changed. The up arrow brings the lines of the block back."
@@ -163,14 +165,20 @@ def no_name(line: str, bench: Stage) -> str:
         return begin + "this is a " + use % short(name)
     if any(row.kind == "integer" and row.name == name for row in bench.read("integers a")):
         return "%sthis is an integer variable, and no %s. integers WORD shows its value at the end of a run." % (begin, kinds[0])
-    entry = next((key for key in places.entries if argument in (key[2], "'%s'" % key[2])), None) if command == "uses" else None
+    entry = is_string(argument, places) if command == "uses" else ""
     if entry:
-        return "%s is a string of an among: uses %s %s %s." % (short(argument), *map(short, entry))
+        return entry
     bare = re.sub(r"\Anon[-_]?", "", name)
     question = meant(name, there) or " Did you mean %s?" % short(bare) * (bare in there)
     others = " The script has %s." % (in_words(there, "and") if there else "none")
     others += " Declare and define a new one in the file." if command in ("routine", "grouping") else ""
     return "%sthere is no %s of this name.%s" % (begin, " or ".join(kinds), question or others)
+
+
+def is_string(text: str, places: Places, name: str = "") -> str:
+    """Returns the sentence on a text that is a string of an among, of that definition if it is named; otherwise nothing."""
+    entry = next((key for key in places.entries if name in ("", key[0]) and text in (key[2], "'%s'" % key[2])), None)
+    return "%s is a string of an among: uses %s %s %s." % (short(text), *map(short, entry)) if entry else ""
 
 
 def amongs_of(line: str, bench: Stage) -> str:
@@ -185,15 +193,14 @@ def amongs_of(line: str, bench: Stage) -> str:
 def unknown(line: str, bench: Stage) -> str:
     """The sentence for what is no command, or one that lacks something or has too much."""
     command, _, argument = line.partition(" ")
-    strange = next((said for begins, said in STRANGE if re.match(begins, line)), "")
-    if strange:
-        return strange.format(c=command, called=named(CALLED))
+    if strange(line):
+        return strange(line)
     if command in ("among", "uses"):
         (name, _, string), places = argument.partition(" "), bench.places()
-        entry = next((key for key in places.entries if key[0] == name and string in (key[2], "'%s'" % key[2])), None) if command == "uses" else None
+        entry = is_string(string, places, name) if command == "uses" else ""
         known = " " + amongs_of(line, bench) if places.kind(name) == "routine" else ""
         if entry:
-            return "%s is a string of an among: uses %s %s %s." % (short(string), *map(short, entry))
+            return entry
         if known.endswith("no among."):
             return known.strip() + ' Use "uses %s".' % short(name) * (command == "uses")
         lacks = "a number" if known else "a name and a number" if command == "among" else "a name"
@@ -203,11 +210,23 @@ def unknown(line: str, bench: Stage) -> str:
         other = {"classes": "class WORD", "stems": "find TEXT", "counts": "uses NAME", "script": "show NAME"}.get(command, "")
         said = "%s takes nothing after it." % command + " For a part of it: %s." % other * bool(other)
         return "%s needs more: %s." % (command, COMMANDS[command].usage) if COMMANDS[command].takes else said
-    longer = [name for name in COMMANDS if name.startswith(command.casefold())] if command else []
     if line and bench.known("class " + line) is not None:
         return "%s is a word: why %s shows its way to its stem. help lists the commands." % (short(line), short(line))
+    return no_command(line)
+
+
+def strange(line: str) -> str:
+    """The sentence for a line that is another thing than a command; nothing if that is not known."""
+    said = next((said for begins, said in STRANGE if re.match(begins, line)), "")
+    return said.format(c=line.partition(" ")[0], called=named(CALLED))
+
+
+def no_command(line: str) -> str:
+    """The sentence for a line that begins with no command."""
+    command = line.partition(" ")[0]
+    longer = [name for name in COMMANDS if name.startswith(command.casefold())] if command else []
     question = meant(command, COMMANDS) or (" Did you mean %s?" % in_words(longer, "or") if 0 < len(longer) < 4 else "")
-    return "%s is not a command.%s help lists the commands." % (short(command or line.strip()), question)
+    return strange(line) or "%s is not a command.%s help lists the commands." % (short(command or line.strip()), question)
 
 
 def bad_file(line: str, bench: Stage) -> str:
@@ -246,7 +265,6 @@ def no_room(folder: str) -> str:
 
 
 def unreadable(path: str) -> str:
-    """Returns why a file cannot be read."""
     reasons = {errno.ENOENT: "there is no such file", errno.EISDIR: "it is a folder", errno.EACCES: "you may not read it"}
     try:
         # (a pipe that nobody writes to is not waited for)

@@ -59,7 +59,7 @@ def differing(made: Dict[str, str]) -> Iterator[str]:
 def missing_of_work(definition: Definition) -> Iterator[str]:
     """Yields the commands of `work` that only one of the table and the definitions has."""
     defined = {word for path in DEFINITIONS for word in COMMAND.findall(read_text("crates", path))}
-    listed = set(definition.words_of_work()) - {"#", "define", "tests", "lint", "rescue"}
+    listed = set(definition.words_of_work()) - {"#", "define", "tests", "last", "lint", "rescue"}
     if not defined:
         yield "crates/ has no definitions of the commands of work"
     for word in sorted(defined ^ listed):

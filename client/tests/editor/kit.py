@@ -14,6 +14,7 @@ import time
 import unittest
 from typing import Any, Dict, List, Optional, Set
 
+from voltizug.editor.judge import Judge
 from voltizug.editor.wire import read_message, write_message
 from voltizug.editor.texts import Text
 
@@ -172,6 +173,13 @@ class Editor:
         self.process.wait()
         for stream in (self.process.stdin, self.process.stdout):
             stream.close()  # type: ignore
+
+
+def judge_for(test: unittest.TestCase) -> Judge:
+    """Returns a judge whose programs end with a test."""
+    judge = Judge(PROGRAM)
+    test.addCleanup(lambda: [program.stop() for program, _ in judge.programs.values()])
+    return judge
 
 
 class OverServer(Case):

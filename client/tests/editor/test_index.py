@@ -3,15 +3,15 @@ import os
 import re
 import tempfile
 import unittest
+import unittest.mock
 
 from voltizug import language
 from voltizug.editor.index import AFTER, AS_COMMAND, AS_CONDITION, Index
-from voltizug.editor.judge import Judge
 from voltizug.program import DONE, Reply
 from voltizug.editor.texts import Text
 
-from ..kit import PROGRAM, Case
-from .kit import TOP, accepted, needs_tokens, read, rows_of
+from ..kit import Case
+from .kit import TOP, accepted, judge_for, needs_tokens, read, rows_of
 
 
 class Table(unittest.TestCase):
@@ -41,7 +41,7 @@ class Table(unittest.TestCase):
         self.assertEqual(condition.split(" or "), list(AS_CONDITION))
 
     def test_the_program_refuses_each_as_a_name(self):
-        judge = Judge(PROGRAM)
+        judge = judge_for(self)
         for word in sorted(language.RESERVED):
             self.assertTrue(judge.faults(Text("integers ( %s ) externals ( stem ) define stem as true" % word)), word)
         self.assertEqual(judge.faults(Text("integers ( lent ) externals ( stem ) define stem as true")), [])
@@ -61,7 +61,7 @@ class Rows(unittest.TestCase):
             'fault,10,Undeclared,41,48,2,22,"nowhere is not declared, and so on"', "fault,10,Undeclared,56,61,2,34,never is not declared",
             "fault,21,NoExternal,,,,,no external",
         ]
-        judge = Judge(PROGRAM)
+        judge = judge_for(self)
         judge.ask_known = lambda text, external, word: Reply(DONE, lines, [])
         found = [(fault.name, fault.start, fault.end, fault.sentence) for fault in judge.faults(text)]
         wanted = [("Undeclared", 40, 47, "nowhere is not declared, and so on"), ("Undeclared", 52, 57, "never is not declared"), ("NoExternal", 0, 9, "no external")]
@@ -72,7 +72,7 @@ class Rows(unittest.TestCase):
 @needs_tokens
 class Names(Case):
     def setUp(self):
-        self.judge = Judge(PROGRAM)
+        self.judge = judge_for(self)
 
     def test_places(self):
         """Definitions, amongs, strings and names are where the program has them: over each script."""
@@ -118,6 +118,6 @@ class Names(Case):
         self.assertIn("NAME", fitting("stringescapes {} stringdef a' '\u00e9' define r as "))
 
     def test_what_is_sent_to_the_program_is_read_from_memory(self):
-        before = set(os.listdir(tempfile.gettempdir()))
-        self.judge.faults(Text("externals ( stem )"))
-        self.assertEqual(set(os.listdir(tempfile.gettempdir())) - before, set())
+        with unittest.mock.patch.object(tempfile, "tempdir", self.room()):
+            self.judge.faults(Text("externals ( stem )"))
+            self.assertEqual(os.listdir(tempfile.gettempdir()), [])

@@ -11,7 +11,7 @@ from voltizug.editor.judge import Judge
 from voltizug.editor.texts import Text
 
 from ..kit import PROGRAM, example
-from .kit import REFRESHING, SCRIPTS, STORM, Editor, OverServer, accepted, needs_tokens, read, rows_of
+from .kit import REFRESHING, SCRIPTS, STORM, Editor, OverServer, accepted, judge_for, needs_tokens, read, rows_of
 
 BITS = ["'", "(", ")", "/*", "*/", "//", "{", "\U0001d51e", "\u00e9", "\ufeff", "\r\n", "define ", "among ", "$", "\x00", "stringescapes "]
 PLACED = ("hover", "definition", "references", "completion")
@@ -21,7 +21,7 @@ PLACED = ("hover", "definition", "references", "completion")
 class Renames(OverServer):
     def test_each_name(self):
         """Renaming gives the canonical text of before with another name."""
-        editor, judge, count, first = self.editor({"run": "never"}), Judge(PROGRAM), 0, 0
+        editor, judge, count, first = self.editor({"run": "never"}), judge_for(self), 0, 0
         for path in accepted():
             text, uri = read(path), "file:///none/%s" % os.path.basename(path)
             self.assertEqual(editor.open(uri, text), [])
@@ -46,7 +46,7 @@ class Renames(OverServer):
 
     def test_each_definition(self):
         """The tokens of each definition are those of its canonical text."""
-        judge, count = Judge(PROGRAM), 0
+        judge, count = judge_for(self), 0
         for path in accepted():
             text = read(path)
             index = Index(judge.tokens(text))
@@ -60,7 +60,7 @@ class Renames(OverServer):
 
     def test_misspelt_names(self):
         editor, chance = self.editor({"run": "never"}), random.Random(2)
-        judge = Judge(PROGRAM)
+        judge = judge_for(self)
         for path in accepted():
             text, uri = read(path), "file:///none/%s" % os.path.basename(path)
             self.assertEqual(editor.open(uri, text), [])

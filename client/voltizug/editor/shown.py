@@ -4,7 +4,8 @@ from typing import Any, Callable, List, Optional, Tuple
 
 from .. import layout, rows
 from ..layout import counted, named
-from ..program import Memory, comparison
+from ..page.comparison import comparison
+from ..program import Memory
 from ..rows import Token
 from ..words import Refused
 from .index import Index

@@ -4,8 +4,9 @@ from typing import Any, Dict, List, Optional, Sequence
 from .. import faults, words
 from ..bench import Bench
 from ..kept import read_file
-from ..layout import named
 from ..desk import OF_WORDS
+from ..editor.judge import place_of
+from ..layout import named
 from . import ink
 
 # So many faults are shown.
@@ -17,7 +18,7 @@ def refusal(bench: Bench, said: Sequence[str], typed: Optional[str] = None) -> D
     script, data = bench.script, read_file(bench.script) or b""
     tokens = bench.tokens_of(script) if typed is None and faults.needs_tokens(said) else []
     lines = faults.shown(said, script, data if typed is None else None, 1 << 20, tokens) or [named(line) for line in said]
-    place = faults.place_of(lines, named(script), "replace")
+    place = place_of(lines, named(script), "replace")
     # (a fault of the words has no place in the script)
     is_of_script = place.line > 0 or typed is not None
     of_words = OF_WORDS.get(faults.code_of(said)) if bench.words and not is_of_script else None

@@ -16,7 +16,8 @@ from .. import rows
 from ..kept import read_file
 from ..layout import counted, named
 from ..options import usual_program
-from ..program import Program, comparison
+from ..program import Program
+from .comparison import comparison
 from .ink import shown_text
 
 HERE = os.path.dirname(os.path.realpath(__file__))
