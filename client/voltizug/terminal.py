@@ -21,7 +21,7 @@ DEFINITION = re.compile(r"\s*define\s+([A-Za-z][A-Za-z0-9_]*)\s+(as(?=\s|$))?")
 TO_FILE = re.compile(r"(.*\S)\s+>\s*(\S+)\s*\Z")
 USAGE = "usage: %s work [--watch] [--rows | --text] [--color WHEN] [--no-pager] [--external NAME] [--from TEXT] [--stop FILE] SCRIPT [WORDS]" % options.CALLED
 # Replies that are not broken, since an author wrote them.
-TEXTS = ("script", "show", "echo", "events")
+TEXTS = ("script", "show", "echo")
 # By report how many of its last lines are figures.
 FIGURES = {"changes": 1, "families": 2}
 
@@ -159,6 +159,9 @@ class Terminal(Desk):
         meaning = "%s: %s" % (last.name, words.REFUSALS[last.name]) if last.kind == "refused" and last.name in words.REFUSALS else ""
         shown = reports.why(word, events, figures, self.bench.places())
         return shown + ["  " + line for line in (turn, meaning, words.misspelt(word, self.bench)) if line]
+
+    def reply_events(self, word: str, lines: Sequence[str]) -> List[str]:
+        return reports.events(word, rows.read("events", lines), self.bench.places())
 
     def reply_tests(self, word: str, lines: Sequence[str]) -> List[str]:
         _, events, is_known = self.run_of(word, lines)
