@@ -106,6 +106,20 @@ class Sessions(Case):
         terminal.save(script % "define stem as ( try ( a b ) or b )")
         self.assertIn("my.sbl:7:18: try never fails", terminal.enter(""))
 
+    def test_amongs_without_a_command(self):
+        """Nothing is said if the slice may be taken elsewhere, or if the among is a test."""
+        script = "externals ( stem )\nroutines ( a b )\ndefine a as ( [substring] among ( 'x' 'y' ) %s )\ndefine b as delete\ndefine stem as ( %s )\n"
+        said = "my.sbl:3:27: no string here has a command, and nothing takes the slice of [substring]: (delete) after the strings is meant, perhaps"
+        terminal = self.begin(script % ("", "do a"), "abx\n")
+        self.assertIn(said, self.start)
+        for rest, body, is_idle in (
+            ("", "do ( 'z' or a ) next", True), ("", "do next a", True), ("delete", "do a", False), ("b", "do a", False), ("", "do a b", False),
+            ("", "do ( a or 'z' )", False), ("", "not a next", False), ("", "a next", False), ("", "among ( 'x' a )", False),
+        ):
+            with self.subTest(body):
+                terminal.save(script % (rest, body))
+                self.assertEqual(said in terminal.enter("", "lint"), is_idle)
+
     def test_a_change_on_the_left_of_an_or_that_may_fail_after_it(self):
         """`or` puts the cursor back, but not the text. Nothing is said if the rest cannot fail, or if the left side as a whole cannot."""
         script = "externals ( stem )\nroutines ( a b )\ndefine a as ( ['a'] delete 'b' )\ndefine b as ( ['c'] delete )\ndefine stem as ( do ( %s ) )\n"

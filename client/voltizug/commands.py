@@ -35,9 +35,9 @@ LANGUAGE = [name for name in COMMANDS if name in RESERVED]
 # A blank at the end of these may belong to a word.
 WITH_TEXT = [name for name, command in COMMANDS.items() if command.takes in ("WORD", "TEXT", "STEM", "NAME [K [STRING")]
 # Reports: they can be written to a file by > FILE, and have a pager. Rows for programs are some.
-ROWS = "events faults figures places text tokens".split()
+ROWS = "faults figures places text tokens".split()
 REPORTING = "changes class classes counts families find history integers largest last lint script show stats stem stems".split()
-REPORTING += ["tests", "trace", "unused", "uses", "why", *ROWS]
+REPORTING += ["events", "tests", "trace", "unused", "uses", "why", *ROWS]
 # How a comment and a declaration of a script begin.
 COMMENT, DECLARATION = r"\s*(//|/\*)", r"(%s)( |\Z)" % "|".join(word for word in ITEMS if word != "define")
 # By the beginning of a line that is no command what is said of it. {c} is its first word.

@@ -9,6 +9,8 @@ from .places import Places
 
 # How many lines of `why` are shown at most, before those that are left out and after them; how many tests.
 FIRST, LAST, MOST_TESTS = 40, 19, 200
+# Deeper calls are not indented more than such.
+DEEPEST = 8
 FIGURES = {
     "refused": "refused", "alone": "classes of one word", "largest": "words in the largest class",
     "unchanged": "words that are their own stem", "runs": "runs so far", "under": "understemmed", "over": "overstemmed",
@@ -116,6 +118,33 @@ class Call:
         self.acts = self.acts or row.kind in ("taken", "put")
 
 
+def happened(row: Any, text: str, places: Places) -> Line:
+    """Returns the line on an event that comes when the word has become a text."""
+    if row.kind == "taken":
+        return row.name, "among %s takes '%s'" % (row.k, short(row.string)), places.of(row.name, row.k, row.string)
+    if row.kind == "put":
+        old = text[int(row.start) : int(row.end)]
+        return row.name, "'%s' -> '%s'   %s -> %s" % (short(old), short(row.text), short(text), short(row.after) or "(empty)"), ""
+    if row.kind == "more":
+        return "..", "{:,} more events".format(int(row.count)), ""
+    if row.kind in ("stem", "refused"):
+        return row.kind, named(row[1]) or "(empty)", ""
+    if row.kind in ("search", "none"):
+        return row.name, "searches among " + row.k if row.kind == "search" else "among %s takes none" % row.k, ""
+    what = "begins" if row.kind == "call" else "is true" if row.signal == "t" else "is false"
+    return row.name, what, places.of(row.name) if row.kind == "call" else ""
+
+
+def events(word: str, found: Sequence[Any], places: Places) -> List[str]:
+    """Each event of a run; what a routine calls is indented."""
+    text, shown = word, []  # type: str, List[Line]
+    for row in found:
+        name, what, place = happened(row, text, places)
+        shown.append(("  " * min(int(getattr(row, "depth", 0)), DEEPEST) + name, what, place))
+        text = row.after if row.kind == "put" else text
+    return in_columns(shown)
+
+
 def why(word: str, events: Sequence[Any], figures: Sequence[Any], places: Places, has_more: bool = True) -> List[str]:
     """What took a string, what routines answered when they were asked, each change of the text, and the test that made a routine false which
     had changed something, if the events have tests. `has_more` says that somebody can ask for `events` and `tests`."""
@@ -125,13 +154,9 @@ def why(word: str, events: Sequence[Any], figures: Sequence[Any], places: Places
             shown += returned(calls, row.signal == "t", places)
         elif row.kind == "call":
             calls.append(Call(row.name))
-        elif row.kind == "taken":
-            shown.append((row.name, "among %s takes '%s'" % (row.k, short(row.string)), places.of(row.name, row.k, row.string)))
-        elif row.kind == "put":
-            old, text, before = text[int(row.start) : int(row.end)], row.after, text
-            shown.append((row.name, "'%s' -> '%s'   %s -> %s" % (short(old), short(row.text), short(before), short(row.after) or "(empty)"), ""))
-        elif row.kind == "more":
-            shown.append(("..", "{:,} more events".format(int(row.count)), ""))
+        elif row.kind in ("taken", "put", "more"):
+            shown.append(happened(row, text, places))
+            text = row.after if row.kind == "put" else text
         elif row.kind in ("stem", "refused"):
             name = calls[-1].name if row.kind == "refused" and calls else ""
             place = " (%s)" % places.of(name) if name and places.of(name) else ""

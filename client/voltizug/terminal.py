@@ -173,6 +173,9 @@ class Terminal(Desk):
         shown = reports.why(word, events, figures, self.bench.places())
         return shown + ["  " + line for line in (turn, meaning, words.misspelt(word, self.bench)) if line]
 
+    def reply_events(self, word: str, lines: Sequence[str]) -> List[str]:
+        return reports.events(word, rows.read("events", lines), self.bench.places())
+
     def reply_tests(self, word: str, lines: Sequence[str]) -> List[str]:
         _, events, is_known = self.run_of(word, lines)
         unknown = ["The tests of this run cannot be shown: it is too long, or near a limit."]
