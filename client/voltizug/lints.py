@@ -218,7 +218,10 @@ def idle_amongs(places: Places) -> Iterable[Tuple[int, str]]:
     """An among without a command, if [substring] is before it, nothing after it or in what calls its routine takes the slice, and no call is a test."""
     parts = {name: places.part(name)[BODY:] for name in places.of_kind("routine")}
     texts = {name: {token.text for token in part} for name, part in parts.items()}
-    takers, ways = {name for name in those_with(TAKING, places) if "[" not in texts[name]}, callers(texts)
+    takes, ways = {*TAKING, *(name for name in those_with(TAKING, places) if "[" not in texts[name])}, callers(texts)
+    taking, tested = {name for name in parts if not texts[name].isdisjoint(takes)}, set()  # type: Set[str], Set[str]
+    for part in parts.values():
+        tested |= {token.text for i, token in enumerate(part) if token.text in parts and is_test(part, i)}
     what = "no string here has a command, and nothing takes the slice of [substring]: (delete) after the strings is meant, perhaps"
     for name, part in parts.items():
         last = 0
@@ -226,11 +229,8 @@ def idle_amongs(places: Places) -> Iterable[Tuple[int, str]]:
             last = i if token.text == "substring" else last
             if token.text == "among":
                 has_slice, end, last = last > 0 and part[last - 1].text + part[last + 1].text == "[]", end_of(part, i + 1), 0
-                if not has_slice or any(other.text == "(" for other in part[i + 2 : end]):
-                    continue
-                after = {other.text for other in part[end:]}.union(*(texts[other] for other in reached([name], ways) - {name}))
-                calls = (is_test(other, at) for other in parts.values() for at, call in enumerate(other) if call.text == name)
-                if after.isdisjoint((*TAKING, *takers)) and not any(calls):
+                is_idle = has_slice and name not in tested and takes.isdisjoint(other.text for other in part[end:])
+                if is_idle and all(other.text != "(" for other in part[i + 2 : end]) and taking.isdisjoint(reached([name], ways) - {name}):
                     yield token.start, what
 
 
