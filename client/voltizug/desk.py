@@ -200,7 +200,6 @@ class Desk:
             said = "%s. %s" % (name, said)
         found, most = faults.without_following(self.bench.read("faults"))[1:] if code == 48 else [], max(1, self.screen.size().lines // 3)
         others = ["also %s:%s: %s" % row[5:8] if row.line else "also: " + row.sentence for row in found[:most]]
-        others = [layout.cut(layout.named(line), self.screen.size().columns) for line in others]
         self.screen.say(said, *others, "{:,} more faults".format(len(found) - most) if len(found) > most else "")
         self.nonsense = self.nonsense + 1 if code == 52 and self.editor.has_key() else 0
         # (of a script that was pasted one line is enough)

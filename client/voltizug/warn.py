@@ -27,7 +27,7 @@ LONG_WORD: Kind = (is_overlong, "more than 65,536 bytes, which no line may have"
 OF_WORDS: Sequence[Kind] = (
     (
         re.compile(r"^[^\S\n]|[^\S\n]$", re.M).search, "a blank at an end of the word, which belongs to it",
-        ". To take them away: sed -i 's/^[ \\t]*//; s/[ \\t]*$//' {file}",
+        ". To take them away: sed -i 's/^[ \\t]*//; s/[ \\t\\r]*$//' {file}",
     ),
     (re.compile(r"^\.$", re.M).search, "a single point. In a session it ends the list; here it is a word", ""),
     (re.compile(r"^.{256}", re.M).search, "more than 255 characters, which no word may have", ""),
