@@ -235,7 +235,7 @@ class Bench(Stage):
         found = pairs_of(*pairs)
         figures, self.pairs = (*(self.pairs or found), *found) if found else (), found or self.pairs
         return edit._replace(
-            changes=self.changes, own=rows.between(before_it[0], stems.lines) if before_it and self.changes else None,
+            changes=self.changes, own=rows.between(before_it[0], stems.lines) if before_it else None,
             pairs=figures, step=step if word in ("undo", "redo") else None,
             note=self.note_on(word, before, had_fault, done == history), aside=self.note_text(word, before, history),
         )
@@ -256,6 +256,9 @@ class Bench(Stage):
         """Notes which texts files have. Returns the names of the typed edits that a reload put aside."""
         text, aside = self.program.now.text, None
         self.is_older = text != self.file_text and (self.is_older or word == "undo" and before.text == self.file_text)
+        if word == "undo" and before.text != text:
+            # (what was put aside and undo takes back, the author drops)
+            self.aside = [(other, names) for other, names in self.aside if other != before.text]
         if word == "reload":
             self.note_file()
             if before.text != text and self.is_unsaved(before.text) and not self.has_saved(before.text, text):

@@ -105,7 +105,7 @@ class Desk:
             self.editor.remember(*left.block)
             bench.kept.keep(os.path.join(left.room, "block"), b"")
             block = short(left.block[0]), counted(len(left.block) - 1, "line")
-            say("A block was open when the terminal was closed (%s, %s): the up arrow brings its lines." % block)
+            say("A block was open when the terminal was closed (%s, %s): the up arrow brings it back." % block)
         for left in [left for left in all_left if left.path or left.words][-1:]:
             names = left.edits + [counted(len(left.words), "added word")] * bool(left.words)
             edits = "Edits that you typed before were left behind when the terminal was closed (%s)" % in_words(names, "and", 5)
@@ -251,7 +251,9 @@ class Desk:
             return False
         if is_reload:
             self.warn()
-        self.own = own = edit.changes if edit.own is None else edit.own
+        self.own = edit.changes if edit.own is None else edit.own
+        # (an edit that leads back to the mark has its rows in "last" alone)
+        own = self.own if edit.changes else []
         refused = [row for row in own if row.kind == "changed" and row.new_kind == "refused"]
         worst = next((row.word for row in refused if row.new in loops.NAMES), refused[0].word if refused else "")
         tail = [*(self.new_lints() if is_reload or edit.command in (*BLOCKS, *OPEN_BLOCKS) else []), self.ending(worst) if refused else ""]

@@ -65,9 +65,11 @@ def advice(line: str, source: str, carets: str, text: bytes) -> str:
 
 
 def without_following(found: Sequence[Any]) -> List[Any]:
-    """Returns the rows of `faults` without those of modes, if these only follow from a misspelt `backwards`."""
+    """Returns the rows of `faults` without those that only follow from another: of modes after a misspelt `backwards`, and of an external that
+    is not defined if a name is declared twice."""
     is_misspelt = any("Did you mean backwards?" in row.sentence for row in found)
-    return [row for row in found if not is_misspelt or row.name != "WrongMode"]
+    is_twice = any(row.name == "DeclaredTwice" for row in found)
+    return [row for row in found if not (is_misspelt and row.name == "WrongMode" or is_twice and row.name == "NoExternal")]
 
 
 def needs_tokens(said: Sequence[str]) -> bool:

@@ -221,14 +221,17 @@ class Editor:
     # History and TAB
 
     def remember(self, *lines: str) -> None:
-        for line in (line for line in lines if line.strip() and "\n" not in line):
-            try:
-                readline.add_history(line)
-            except UnicodeError:
-                # (readline takes the bytes of a line, and in a locale without these letters knows no text)
-                readline.add_history(line.encode("utf-8", "surrogateescape").decode("ascii", "surrogateescape"))
-            with contextlib.suppress(OSError):
-                readline.append_history_file(1, self.history)
+        """Remembers lines, those of a block together as one entry."""
+        entry = "\n".join(lines)
+        if not entry.strip():
+            return
+        try:
+            readline.add_history(entry)
+        except UnicodeError:
+            # (readline takes the bytes of a line, and in a locale without these letters knows no text)
+            readline.add_history(entry.encode("utf-8", "surrogateescape").decode("ascii", "surrogateescape"))
+        with contextlib.suppress(OSError):
+            readline.append_history_file(1, self.history)
 
     def open_history(self) -> None:
         readline.set_auto_history(False)

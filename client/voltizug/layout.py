@@ -136,7 +136,7 @@ def summary(edit: Edit) -> str:
     text = figures(edit.changes)
     if edit.own == []:
         text += " (this edit changed none)"
-    elif edit.own:
+    elif edit.own and edit.changes:
         text = "this %s: %s; %s" % (edit.command if edit.step else "edit", figures(edit.own, ""), text)
     if edit.command in ("undo", "redo"):
         text = "%s%s; %s" % ("taken back" if edit.command == "undo" else "made again", ": " + short(step_of(edit.step)) if edit.step else "", text)

@@ -62,6 +62,13 @@ def spot(places: Places, start: int) -> str:
     return places.at(home, start) if home else "%s:%d:%d" % (places.script, *line_and_column(places.text, start))
 
 
+def is_first(before: Sequence[str]) -> bool:
+    """Whether a routine does nothing that fails before a `setmark`, by the tokens before it."""
+    while before[-1:] in (["("], ["tolimit"]) or before[-2:-1] == ["setmark"]:
+        before = before[: -2 if before[-2:-1] == ["setmark"] else -1]
+    return before[-1:] == ["as"]
+
+
 def misused(tokens: Sequence[Token]) -> Iterable[Tuple[int, str]]:
     """An empty slice, a limit for `[`, `$x = cursor`, a group of only a literal beside one with `<-`, an integer that may stay 0, `do X or`."""
     texts, kinds = [token.text for token in tokens] + [""] * 7, [token.kind for token in tokens] + [""] * 7
@@ -76,7 +83,7 @@ def misused(tokens: Sequence[Token]) -> Iterable[Tuple[int, str]]:
             yield token.start, "${0} = cursor sets {0} and never fails: == or <= is meant, perhaps".format(short(texts[i + 1]))
         elif kinds[i] == kinds[i + 2] == "literal" and texts[i + 1 : i + 4 : 2] == ["(", ")"] and "<-" in (texts[i - 3], texts[i + 6]):
             yield tokens[i + 2].start, "({0}) only tests whether {0} is there: (<- {0}) is meant, perhaps".format(short(texts[i + 2]))
-        elif token.text == "setmark" and (texts[i + 1], "=") not in values and any((texts[i + 1], sign) in values for sign in ("<", "<=", ">", ">=")):
+        elif token.text == "setmark" and not is_first(texts[:i]) and (texts[i + 1], "=") not in values and any((texts[i + 1], sign) in values for sign in ("<", "<=", ">", ">=")):
             yield token.start, "{0} is 0 in the run of a word that does not come here: ${0} = limit before it is meant, perhaps".format(texts[i + 1])
         elif token.text in SURE and texts[i - 1] not in NOT_SURE and texts[i + 1] and texts[end_of(tokens, i + 1)] == "or":
             what = "{0} never fails, so what is after this or never runs: {0} ( .. or .. ) is meant, perhaps"

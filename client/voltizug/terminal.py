@@ -4,6 +4,7 @@ import os
 import re
 import sys
 import traceback
+from collections import Counter
 from operator import ne
 from typing import Any, List, Sequence, Tuple
 
@@ -164,6 +165,8 @@ class Terminal(Desk):
         text, there = (kept.read_file(path) or b"").decode("utf-8", "surrogateescape"), self.bench.by_word()
         strange = [word for word in re.split("[ \t\r\n,]+", text) if word and word not in there][:1]
         first = ["The first word that is not in the vocabulary is %s." % words.in_quotes(word) for word in strange]
+        families = Counter(word for line in text.splitlines() for word in dict.fromkeys(re.split("[ \t,]+", line)) if word)
+        first += ["%s is in more than one family, and counts in the first one." % words.in_quotes(word) for word, count in families.items() if count > 1][:1]
         return mark + warn.on_lines(layout.named(path), path, text, warn.DECOMPOSED) + first + reports.families(lines)
 
     def reply_why(self, word: str, lines: Sequence[str]) -> List[str]:
@@ -204,6 +207,10 @@ class Terminal(Desk):
         stems, outcomes = kept.read_lines(path), self.bench.outcomes()
         new, whole, said = outcomes[len(stems) :] if stems else [], path, []  # type: List[rows.Outcome], str, List[str]
         if new and all(row.kind == "stem" for row in new):
+            others = sum(line != encoded(row.stem) for line, row in zip(stems, outcomes))
+            doubt = "Most lines of %s are no stems of the first words. The mark stays: the same line again takes them." % short(path)
+            if 2 * others > len(stems) and not self.is_sure("mark " + path, doubt):
+                return
             whole = self.bench.kept.keep("stems", b"\n".join([*stems, *(encoded(row.stem) for row in new)]))
             size = counted(len(outcomes), "word")
             said = ["%s has %s, and there are %s: the mark has the others as they are now." % (short(path), counted(len(stems), "line"), size)]
@@ -278,7 +285,7 @@ class Terminal(Desk):
         if what == "drop":
             for old in left:
                 self.bench.kept.forget(old.room)
-            self.screen.say("They are forgotten.")
+            self.screen.say("They are forgotten." if left else "No typed edits were left behind.")
         elif not left:
             self.screen.say("No typed edits were left behind.")
         else:
@@ -319,7 +326,9 @@ class Terminal(Desk):
         end = self.read_lines(block)
         self.bench.kept.note("block", [])
         if end == "dropped":
-            self.editor.remember(*block[1:])
+            # (a line may have been meant as a command)
+            for line in block[1:]:
+                self.editor.remember(line)
             self.screen.say("The block is dropped%s." % ("; the up arrow brings its lines back" if len(block) > 1 else ""))
         elif end != ".":
             self.screen.say("Nothing was done: the block has no line with only a point at its end.")
@@ -328,7 +337,7 @@ class Terminal(Desk):
             if self.is_done(reply, "families"):
                 self.screen.write(reports.families(reply.lines), is_report=True)
         elif not self.edit([*block, "."]):
-            self.editor.remember(*block[1:], ".")
+            self.editor.remember(*block, ".")
 
     def read_lines(self, block: List[str]) -> str:
         """Reads the lines of a block. Returns its point, nothing if the input ends before it, or that Ctrl-C dropped the block."""

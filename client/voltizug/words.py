@@ -85,7 +85,7 @@ class Refused(Exception):
 def sentence(reply: Reply, lines: Sequence[str], bench: Stage) -> str:
     code = (reply.refusal() or (0, ""))[0]
     if code in (47, 48) and len(lines) > 2:
-        return "Nothing changed. The up arrow brings the lines of the block back."
+        return "Nothing changed. The up arrow brings the block back."
     return refused(code, lines[0], bench)
 
 
