@@ -73,6 +73,14 @@ pub(crate) fn fault_of_script(
     }
 }
 
+/// Returns that a file has more words than a vocabulary may have.
+fn full_text(alloc: Global, name: &str) -> Result<String, AllocError> {
+    let mut shown = String::new(alloc);
+    push_named(&mut shown, name)?;
+    shown.push_str(": more than 100,000 words, which no vocabulary may have")?;
+    Ok(shown)
+}
+
 /// Returns what there is to say on the fault of a run over files.
 pub(crate) fn files_fault_text(
     alloc: Global,
@@ -89,9 +97,10 @@ pub(crate) fn files_fault_text(
             }
             _ => placed_text(alloc, script.name, placed, &script.bytes, LineRole::Script),
         },
-        FilesFault::Words(placed) => {
-            placed_text(alloc, words.name, placed, &words.bytes, LineRole::Word)
-        }
+        FilesFault::Words(placed) => match placed.fault {
+            LoadFault::Open(EditFault::Full) => full_text(alloc, words.name).map(Some),
+            _ => placed_text(alloc, words.name, placed, &words.bytes, LineRole::Word),
+        },
         FilesFault::Stems(placed) => {
             placed_text(alloc, rest.name, placed, &rest.bytes, LineRole::Other)
         }
@@ -114,10 +123,7 @@ pub(crate) fn words_fault_text(
     fault: LoadFault,
 ) -> FaultText {
     if fault == LoadFault::Open(EditFault::Full) {
-        let mut shown = String::new(alloc);
-        push_named(&mut shown, name)?;
-        shown.push_str(": more than 100,000 words, which no vocabulary may have")?;
-        return Ok(Some(shown));
+        return full_text(alloc, name).map(Some);
     }
     let words = without_mark(words);
     placed_text(alloc, name, place_in(words, fault), words, LineRole::Word)
