@@ -192,8 +192,9 @@ class Desk:
         code, name = reply.refusal() or (0, "")
         self.show_fault(reply.said, lines)
         said = words.sentence(reply, lines, self.bench)
+        if lines[0] in ("reload", "words"):
+            self.warn(self.bench.words if lines[0] == "words" else None)
         if lines[0] == "reload":
-            self.warn()
             said = "Nothing changed. " + self.correction(self.bench.script) if code == 48 else said
         elif code == 48 and not reply.said:
             # (a fault of the whole script has no line)

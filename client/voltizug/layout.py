@@ -47,7 +47,7 @@ def broken(line: str, width: int) -> List[str]:
     label = LABEL.match(line)
     hang = " " * label.end() if label and label.end() <= width // 3 else line[: len(line) - len(line.lstrip())] + "    "
     lines = [""]
-    for part in re.split(r"(?<=[ ,])(?! |(?<=\d,)\d)", SHELL.sub(lambda found: found[0].translate(HELD), line)):
+    for part in re.split(r"(?<=[ ,])(?! |%|(?<=\d,)\d)", SHELL.sub(lambda found: found[0].translate(HELD), line)):
         if lines[-1].strip() and columns(lines[-1] + part.rstrip()) > width:
             lines[-1:] = [lines[-1].rstrip(), hang]
         lines[-1] += part.translate(RELEASED)
