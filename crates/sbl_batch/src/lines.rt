@@ -57,7 +57,15 @@ pub(crate) fn push_line<'f>(
 fn are_plain(word: &[u8], kind: &[u8], text: &[u8]) -> bool
     ensures { IsTrue result → (needs_quotes flexible word.now ≡ false) × (needs_quotes flexible kind.now ≡ false) × (needs_quotes flexible text.now ≡ false) }
 {
-    !is_quoted(word) && !is_quoted(kind) && !is_quoted(text)
+    !is_quoted(word) && is_plain(kind) && !is_quoted(text)
+}
+
+// Returns whether `csv` writes a kind as it is. Nearly all rows have the first one.
+#[inline(always)]
+fn is_plain(kind: &[u8]) -> bool
+    ensures { IsTrue result → needs_quotes flexible kind.now ≡ false }
+{
+    kind == b"stem".as_slice() || !is_quoted(kind)
 }
 
 // Returns whether `csv` quotes a field.

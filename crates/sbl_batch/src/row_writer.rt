@@ -17,7 +17,6 @@ use crate::lines::{line_writer, push_line};
 use csv::Writer;
 use sbl_io::{ServeFault, Sink, TextBuffer, write_all};
 use sbl_machine::{DEFAULT_LIMIT, Machine, Meter, Table};
-use sbl_reports::outcome_fields;
 use std::alloc::{AllocError, Global};
 
 /// Rows are written after a run if the runs since the last write took more steps than this.
@@ -123,13 +122,14 @@ pub(crate) fn push_row(
     ensures between { OnOk result (IsBetweenLines rows.new.lines) }
 {
     // The lines of a reader are fewer than a meter counts, so the only error is a failed allocation.
-    let Ok(traced) = machine.trace(alloc, meter, characters, DEFAULT_LIMIT) else {
+    let Ok(end) = machine.run_kept(alloc, meter, characters, DEFAULT_LIMIT) else {
         return Err(AllocError);
     };
-    meter.reuse(traced.touches);
-    rows.steps = rows.steps.saturating_add(traced.used);
-    let (kind, text) = outcome_fields(&mut rows.stem, &traced.outcome)?;
-    meter.reuse_stem(traced.outcome);
+    rows.steps = rows.steps.saturating_add(end.used);
+    let (kind, text) = match end.fault {
+        None => (b"stem".as_slice(), rows.stem.encode(meter.stem())?),
+        Some(fault) => (b"refused".as_slice(), fault.name().as_bytes()),
+    };
     push_line(
         alloc,
         &mut rows.lines,

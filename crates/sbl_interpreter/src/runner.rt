@@ -170,21 +170,23 @@ impl<'a, T: Tables> Runner<'a, T> {
                         },
                     };
                 }
-                Instruction::Character {
-                    cost,
-                    character,
-                    back: _,
-                    next,
-                    fail,
-                } => {
-                    state.pay_for(*cost)?;
-                    at = if state.take_character(self.mode, *character) {
-                        next
-                    } else {
-                        // Only for its contract: the cursor lies in the text, so to put it back to here changes nothing.
-                        state.place();
-                        fail
-                    };
+                Instruction::Character { .. } => {
+                    while let Instruction::Character {
+                        cost,
+                        character,
+                        back: _,
+                        next,
+                        fail,
+                    } = at
+                    {
+                        state.pay_for(*cost)?;
+                        at = if state.take_character(self.mode, *character) {
+                            next
+                        } else {
+                            state.place();
+                            fail
+                        };
+                    }
                 }
                 Instruction::Literal {
                     cost,
@@ -299,7 +301,7 @@ impl<'a, T: Tables> Runner<'a, T> {
         let mut left = state.steps();
         loop {
             let from = state.saved_cursor();
-            if !self.run_from(body, state)? {
+            if !self.run_short(body, state)? {
                 state.put_back(self.mode, from)?;
                 return Ok(());
             }
@@ -352,6 +354,78 @@ impl<'a, T: Tables> Runner<'a, T> {
         Ok(true)
     }
 
+    /// Does what `run_from` does, and calls it only where the first instructions do not end the run.
+    #[cycle(run)]
+    #[inline(always)]
+    fn run_short(&self, body: &Instruction, state: &mut State) -> Result<bool, Halt> {
+        match body {
+            Instruction::Grouping {
+                cost,
+                wanted,
+                grouping,
+                back: _,
+                next,
+                fail,
+            } => {
+                state.pay_for(*cost)?;
+                let groupings = &self.code.program().groupings;
+                if state.take_grouping(self.mode, groupings, *grouping, *wanted)? {
+                    return self.run_from(next, state);
+                }
+                self.run_rest(fail, state)
+            }
+            Instruction::Character {
+                cost,
+                character,
+                back: _,
+                next,
+                fail,
+            } => {
+                state.pay_for(*cost)?;
+                if state.take_character(self.mode, *character) {
+                    return self.run_from(next, state);
+                }
+                self.run_rest(fail, state)
+            }
+            Instruction::LeftBracket { cost, next } => {
+                state.pay_for(*cost)?;
+                state.left_bracket(self.mode);
+                self.run_second(next, state)
+            }
+            _ => self.run_from(body, state),
+        }
+    }
+
+    #[cycle(run)]
+    #[inline(always)]
+    fn run_second(&self, at: &Instruction, state: &mut State) -> Result<bool, Halt> {
+        match at {
+            Instruction::Search {
+                cost,
+                among,
+                site,
+                next,
+                fail,
+            } => {
+                pay_all(*cost, state)?;
+                if self.run_search_all(*among, site, state)? {
+                    return self.run_from(next, state);
+                }
+                self.run_rest(fail, state)
+            }
+            _ => self.run_from(at, state),
+        }
+    }
+
+    #[cycle(run)]
+    #[inline(always)]
+    fn run_rest(&self, at: &Instruction, state: &mut State) -> Result<bool, Halt> {
+        match at {
+            Instruction::End(signal) => Ok(*signal),
+            _ => self.run_from(at, state),
+        }
+    }
+
     /// Tries instructions at the cursor and further on, up to their first t. The cursor stays after the match, or goes
     /// before it. There are at most as many tries as steps, and one more.
     #[cycle(run)]
@@ -363,7 +437,7 @@ impl<'a, T: Tables> Runner<'a, T> {
         let mut left = state.steps();
         loop {
             let from = state.saved_cursor();
-            if self.run_from(body, state)? {
+            if self.run_short(body, state)? {
                 if !past {
                     state.put_back(self.mode, from)?;
                 }
@@ -441,11 +515,11 @@ impl<'a, T: Tables> Runner<'a, T> {
             Some(routine) => {
                 let caller = state.routine();
                 let kept = state.enter(number, routine.amongs)?;
-                let deeper = Runner {
+                let signal = Runner {
                     levels: self.levels - 1,
                     ..*self
-                };
-                let signal = deeper.run_from(&routine.first, state)?;
+                }
+                .run_short(&routine.first, state)?;
                 state.leave(caller, kept, signal)?;
                 Ok(signal)
             }

@@ -105,7 +105,8 @@ impl<R: Source + Drop> Lines<R> {
     pub fn holds_line(&self) -> bool
         ensures { result ≡ has_feed (held_of self.now) }
     {
-        self.chunk[self.at..self.end].contains(&b'\n')
+        let held = &self.chunk[self.at..self.end];
+        first_feed(held) < held.len()
     }
 
     /// Reads more bytes into the chunk, after all bytes in it were used. It reads none only at the end of input. After

@@ -3,18 +3,15 @@ ghost use Rattle.std.specs.Prelude.{◌≡◌, ◌≤◌, ◌<◌, MatchOption, 
 ghost use Rattle.sbl_io.specs.inside.LineSteps.{NoFeed};
 ghost use Rattle.sbl_io.specs.LinesOf.{without_carriage_return, lines_of};
 
+use memchr::memchr;
+
 /// Returns the index of the first line feed, or the number of bytes if there is none.
 pub(crate) fn first_feed(bytes: &[u8]) -> usize
     ensures inside { result ≤ length bytes.now }
     ensures free { NoFeed (take result bytes.now) }
     ensures feed { result < length bytes.now → slice_index bytes.now result ≡ 10 }
 {
-    for at in 0..bytes.len() {
-        if bytes[at] == b'\n' {
-            return at;
-        }
-    }
-    bytes.len()
+    memchr(b'\n', bytes).unwrap_or(bytes.len())
 }
 
 /// Returns the line without a carriage return at its end.

@@ -15,7 +15,7 @@ mod run_stop;
 
 pub use item_ref::ItemRef;
 pub use limit::DEFAULT_LIMIT;
-pub use machine::Machine;
+pub use machine::{KeptEnd, Machine};
 pub use meter::Meter;
 pub use outcome::{Ran, RunTrace, Why};
 pub use run_stop::RunStop;

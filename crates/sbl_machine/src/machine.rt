@@ -40,6 +40,15 @@ use std::collections::BTreeSet;
 /// The maximum depth of calls of routines, counting the external as 1.
 const MAX_LEVELS: u32 = 32;
 
+/// How a run ended.
+#[derive(Drop)]
+pub struct KeptEnd {
+    /// Why there is no stem.
+    pub fault: Option<RunFault>,
+    /// The steps.
+    pub used: u64,
+}
+
 /// A script, ready to run.
 #[derive(Drop)]
 pub struct Machine<S> {
@@ -290,6 +299,44 @@ impl<S: AmongSearch> Machine<S> {
             events: events_or_none(alloc, state.take_events()),
             integers,
             used: traced.used,
+        })
+    }
+
+    /// Runs, and leaves the stem in the meter.
+    pub fn run_kept(
+        &self,
+        alloc: Global,
+        meter: &mut Meter,
+        word: &[char],
+        limit: u32,
+    ) -> Result<KeptEnd, RunStop> {
+        if meter.is_full() {
+            return Err(RunStop::MeterFull);
+        }
+        if meter.state.is_none() {
+            meter.state = Some(State::new(alloc));
+        }
+        let Some(state) = &mut meter.state else {
+            return Err(RunStop::OutOfMemory);
+        };
+        self.restart(state, word, limit)?;
+        let end = self.call_external(state);
+        let paid = u64::from(limit.saturating_sub(state.steps()));
+        let fault = match end {
+            Err(halt) => match halt.fault() {
+                None => return Err(RunStop::OutOfMemory),
+                Some(fault) => Some(fault),
+            },
+            Ok(_) => None,
+        };
+        meter.count_run();
+        Ok(KeptEnd {
+            fault,
+            used: if fault == Some(RunFault::Steps) {
+                u64::from(limit) + 1
+            } else {
+                paid
+            },
         })
     }
 

@@ -59,6 +59,14 @@ impl Meter {
         }
     }
 
+    /// Returns the text of the state.
+    pub fn stem(&self) -> &[char] {
+        match &self.state {
+            Some(state) => state.text(),
+            None => &[],
+        }
+    }
+
     /// Returns the number of runs.
     pub fn count(&self) -> u64
         ensures { result ≡ self.now }

@@ -53,8 +53,10 @@ impl CharacterClass {
         ensures { result ≡ members self.now c }
     {
         let code = c as usize;
+        // It is read before the test, so that a loop over characters reads it once.
+        let first = self.first.as_slice();
         if code < FIRST {
-            is_set(&self.first, code)
+            is_set(first, code)
         } else {
             is_in_blocks(&self.blocks, code)
         }

@@ -43,6 +43,13 @@ impl RecordWriter {
         write_row(&mut self.writer, word, kind, text)
     }
 
+    /// Writes the record of a row.
+    pub fn push_stem(&mut self, word: &[char], stem: &[char]) -> Result<(), AllocError> {
+        let word = self.word.encode(word)?;
+        let text = self.stem.encode(stem)?;
+        write_row(&mut self.writer, word, b"stem".as_slice(), text)
+    }
+
     /// Returns the text of the records that were written. Returns `AllocError` if an allocation fails.
     pub fn into_text(self) -> Result<Vec<u8>, AllocError>
         ensures { (written : List ℕ) → HasWritten self.writer written → IfOk result (λ text. text.items ≡ written) }

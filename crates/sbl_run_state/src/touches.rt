@@ -96,9 +96,10 @@ impl TouchLog {
         if !is_touch_number(routine) {
             return Err(AllocError);
         }
+        self.touches.reserve(1)?;
         ensure_mark(&mut self.entered, routine)?;
-        self.touches.push(Touch::Entered(routine as u32))?;
         set(&mut self.entered, routine, self.round);
+        self.touches.push_reserved(Touch::Entered(routine as u32));
         Ok(())
     }
 
@@ -114,10 +115,11 @@ impl TouchLog {
         if !is_touch_number(routine) || !is_touch_number(among) {
             return Err(AllocError);
         }
+        self.touches.reserve(1)?;
         ensure_mark_in(&mut self.searched, routine, among)?;
-        self.touches
-            .push(Touch::Searched(routine as u32, among as u32))?;
         set_in(&mut self.searched, routine, among, self.round);
+        self.touches
+            .push_reserved(Touch::Searched(routine as u32, among as u32));
         Ok(())
     }
 

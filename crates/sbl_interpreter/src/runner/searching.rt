@@ -42,9 +42,28 @@ impl<'a, T: Tables> Runner<'a, T> {
         ensures no_more { IfOk result (λ _. state.new.steps ≤ state.old.steps) }
     {
         let from = state.saved_cursor();
-        let mut place = self
+        let first = self
             .tables
             .longest(table, state.text(), state.place(), state.bound(self.mode));
+        let Some(first) = first else {
+            state.take_none(among)?;
+            return Ok(false);
+        };
+        self.try_all(among, table, from, entries, first, state)
+    }
+
+    #[cycle(run)]
+    #[inline(never)]
+    fn try_all(
+        &self,
+        among: usize,
+        table: usize,
+        from: SavedCursor,
+        entries: &[Candidate],
+        first: usize,
+        state: &mut State,
+    ) -> Result<bool, Halt> {
+        let mut place = Some(first);
         while let Some(i) = place {
             match self.try_string(among, from, entries, i, state) {
                 Err(halt) => return Err(halt),
