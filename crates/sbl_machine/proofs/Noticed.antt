@@ -12,7 +12,8 @@ use Rattle.sbl_resolver.specs.declared.occurrences.Use.TheVariants as use_as
 use Rattle.sbl_resolver.specs.Occurrences.{Occurrence, Notice, put, uses, substring, among, string, backwards, region_end, declares, defines_routine, defines_grouping, amongs_in, noted_expression, use_of, noted_entry, noted_entries, is_empty, noted_command, noted_rows, noted_others, noted_groups, noted_plain, noted_name}
 use Rattle.sbl_resolver.specs.OccurrenceView.{walked_expression, noted_sums, noted_product, noted_scales, noted_factor, noted_simple, noted_prefix, site_after, noted_condition, has_starter, noted_starter, noted_terms}
 use Rattle.sbl_resolver.proofs.Walked.{expression_is, prefixed_is, among_is}
-use Rattle.sbl_resolver.specs.Checks.{declared_as, kind_of, defined_at, definition_of}
+use Rattle.sbl_resolver.specs.Checks.{kind_of, defined_at, definition_of}
+use Rattle.sbl_resolver.specs.inside.CheckParts.{declared_as}
 use Rattle.sbl_resolver.proofs.Extends.{Extends}
 
 -- ---- the first of some occurrences of which something is said

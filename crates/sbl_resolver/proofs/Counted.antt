@@ -2,7 +2,8 @@
 use Rattle.std.proofs.Common.{◌≡◌, ℕ, ◌+◌, ◌≤◌, List, [], ◌∷◌, ◌++◌, length, suc, refl, sym, ap, ◌∙◌, arith}
 use Rattle.std.proofs.lemmas.List.{map_push}
 use Rattle.sbl_resolver.specs.declared.occurrences.Occurrence as noted
-use Rattle.sbl_resolver.specs.Occurrences.{Occurrence, Notice, declares, defines_routine, defines_grouping, uses, substring, among, string, backwards, region_end, amongs_after, amongs_in}
+use Rattle.sbl_resolver.specs.Occurrences.{Occurrence, Notice, declares, defines_routine, defines_grouping, uses, substring, among, string, backwards, region_end, amongs_in}
+use Rattle.sbl_resolver.specs.inside.CheckParts.{amongs_after}
 use Rattle.sbl_resolver.specs.OccurrenceView.{view_notice, view_occurrence, view_occurrences}
 
 amongs-push : (s : List Occurrence) (m : Occurrence) (k : ℕ) → amongs_in (s ++ m ∷ []) k ≡ amongs_after m.notice (amongs_in s k)

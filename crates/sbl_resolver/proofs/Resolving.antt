@@ -9,7 +9,8 @@ use Rattle.sbl_resolver.specs.declared.occurrences.Site.{Site}
 use Rattle.sbl_resolver.specs.declared.occurrences.Use.{Use}
 use Rattle.sbl_resolver.specs.declared.occurrences.Use.TheVariants as use_as
 use Rattle.sbl_resolver.specs.Occurrences.{Occurrence, uses, substring, occurrences_of}
-use Rattle.sbl_resolver.specs.Checks.{declared_as, kind_of, definition_of, may_be, needs_definition, is_routine, is_mode, is_followed, lacks_definition, fault_of_use}
+use Rattle.sbl_resolver.specs.Checks.{kind_of, definition_of, may_be, needs_definition, is_routine, is_mode, is_followed, lacks_definition, fault_of_use}
+use Rattle.sbl_resolver.specs.inside.CheckParts.{declared_as}
 use Rattle.sbl_resolver.specs.inside.CheckParts.{is_in_other}
 use Rattle.sbl_resolver.specs.Laws.{Resolves, NamesResolve, SubstringsArePaired}
 use Rattle.sbl_resolver.proofs.FirstFault as first

@@ -12,7 +12,8 @@ use Rattle.sbl_resolver.specs.declared.occurrences.Occurrence as noted
 use Rattle.sbl_ast.specs.declared.mode.Mode.TheVariants.{Forward}
 use Rattle.sbl_resolver.specs.declared.occurrences.Notice.TheVariants as notices
 use Rattle.sbl_resolver.specs.Occurrences.{Occurrence}
-use Rattle.sbl_resolver.specs.Checks.{kind_of, declared_as, is_text_of, is_awaited, waits_after, fault_at, fault_after}
+use Rattle.sbl_resolver.specs.Checks.{kind_of, is_text_of, is_awaited, fault_at, fault_after}
+use Rattle.sbl_resolver.specs.inside.CheckParts.{declared_as, waits_after}
 use Rattle.sbl_resolver.specs.inside.CheckParts.{has_text}
 use Rattle.sbl_resolver.specs.MetNames.{HasMet, Notes}
 use Rattle.sbl_resolver.specs.OccurrenceView.{view_occurrence, view_occurrences}

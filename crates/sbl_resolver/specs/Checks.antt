@@ -24,24 +24,16 @@ use Rattle.sbl_resolver.specs.Occurrences.{substring, among, string, backwards, 
 
 -- ---- what occurrences say about a name
 
-abbrev pub declared_as : List ℕ → Notice → Option DeclarationKind
-declared_as n (declares k x) = if bytes_eq n x then Some k else None
-declared_as n _ = None
-
 -- the kind of the first declaration of the name in these occurrences
 abbrev pub kind_of : List ℕ → List Occurrence → Option DeclarationKind
 kind_of n [] = None
-kind_of n (m ∷ ms) = option_or (declared_as n m.notice) (kind_of n ms)
+kind_of n (m ∷ ms) = option_or (elim m.notice [ declares k x ↦ if bytes_eq n x then Some k else None | _ ↦ None ]) (kind_of n ms)
 
-abbrev pub is_definition : List ℕ → Notice → Bool
-is_definition n (defines_routine x) = bytes_eq n x
-is_definition n (defines_grouping x) = bytes_eq n x
-is_definition n _ = false
-
+-- the site of this occurrence if it is a definition of the name, of any kind
 abbrev pub defined_at : List ℕ → Occurrence → Option Site
-defined_at n m = if is_definition n m.notice then Some m.site else None
+defined_at n m = if elim m.notice [ defines_routine x ↦ bytes_eq n x | defines_grouping x ↦ bytes_eq n x | _ ↦ false ] then Some m.site else None
 
--- the site of the first definition of the name in these occurrences, of any kind
+-- the site of the first definition of the name in these occurrences
 abbrev pub definition_of : List ℕ → List Occurrence → Option Site
 definition_of n [] = None
 definition_of n (m ∷ ms) = option_or (defined_at n m) (definition_of n ms)
@@ -110,16 +102,9 @@ is_followed mode (m ∷ ms) = elim m.notice [
   | _ ↦ is_followed mode ms
 ]
 
--- after this occurrence a substring is still without its among
-abbrev pub waits_after : Notice → Bool → Bool
-waits_after substring waits = true
-waits_after (among has_starter is_empty) waits = false
-waits_after region_end waits = false
-waits_after _ waits = waits
-
 -- after these occurrences a substring is still without its among
 abbrev pub is_awaited : List Occurrence → Bool → Bool
-is_awaited ms waits = fold (λ w m. waits_after m.notice w) waits ms
+is_awaited ms waits = fold (λ w m. elim m.notice [ substring ↦ true | among has_starter is_empty ↦ false | region_end ↦ false | _ ↦ w ]) waits ms
 
 -- the occurrence is a string with these characters, in the among of this number of this item
 abbrev pub is_text_of : ℕ → ℕ → List ℕ → Occurrence → Bool
@@ -157,8 +142,8 @@ fault_after all before (m ∷ after) = option_or (fault_at all before m after) (
 abbrev pub fault_of : List Item → List ℕ → Option ScriptFault
 fault_of items external =
     let all = occurrences_of items in
-    let has_external = option_map_or (is_kind kinds.Externals) (kind_of external all) false && is_some (body_in external items) in
-    option_or (fault_after all [] all) (if has_external then None else Some fault.NoExternal)
+    let is_there = option_map_or (is_kind kinds.Externals) (kind_of external all) false && is_some (body_in external items) in
+    option_or (fault_after all [] all) (if is_there then None else Some fault.NoExternal)
 
 -- no check fails
 abbrev pub WellDeclared : List Item → List ℕ → Type 0

@@ -12,7 +12,8 @@ use Rattle.sbl_ast.specs.declared.tree.DeclarationKind.{DeclarationKind}
 use Rattle.sbl_resolver.specs.declared.occurrences.Site.{Site}
 use Rattle.sbl_resolver.specs.declared.checks.CheckState.{CheckState}
 use Rattle.sbl_resolver.specs.Occurrences.{Occurrence}
-use Rattle.sbl_resolver.specs.Checks.{kind_of, definition_of, is_awaited, declared_as, is_text_of, waits_after, is_routine, is_grouping}
+use Rattle.sbl_resolver.specs.Checks.{kind_of, definition_of, is_awaited, is_text_of, is_routine, is_grouping}
+use Rattle.sbl_resolver.specs.inside.CheckParts.{declared_as, waits_after}
 use Rattle.sbl_resolver.specs.inside.CheckParts.{has_text}
 
 -- the value of a map at a name

@@ -42,15 +42,9 @@ pub record Occurrence : Type 0 where
 abbrev pub put : Notice → Site → List Occurrence → List Occurrence
 put n p sofar = sofar ++ (record { site = p; notice = n }) ∷ []
 
--- the number of amongs of the current routine after an occurrence, given the number before it
-abbrev pub amongs_after : Notice → ℕ → ℕ
-amongs_after (defines_routine n) k = 0
-amongs_after (among has_starter is_empty) k = k + 1
-amongs_after _ k = k
-
 -- the number of amongs in the last routine of these occurrences; if there is no routine, k plus all amongs
 abbrev pub amongs_in : List Occurrence → ℕ → ℕ
-amongs_in ms k = fold (λ j m. amongs_after m.notice j) k ms
+amongs_in ms k = fold (λ j m. elim m.notice [ defines_routine n ↦ 0 | among has_starter is_empty ↦ j + 1 | _ ↦ j ]) k ms
 
 -- ---- names of strings and integers
 
@@ -92,8 +86,6 @@ abbrev mutual
   pub noted_command : Command → Site → List Occurrence → List Occurrence
   noted_command (bracket rs) p sofar = noted_rows rs p sofar
   noted_command (simple_ simples.Substring) p sofar = put substring p sofar
-  noted_command (simple_ s) p sofar = sofar
-  noted_command (literal_ q) p sofar = sofar
   noted_command (name_ n) p sofar = put (uses use_as.Command n) p sofar
   noted_command (non_ with_minus n) p sofar = put (uses use_as.Excluded n) p sofar
   noted_command (prefixed prefixes.Backwards c) p sofar = noted_command c (record { item = p.item; mode = Backward }) (put backwards p sofar)
@@ -109,6 +101,7 @@ abbrev mutual
   noted_command (among_ no_starter gs) p sofar = noted_groups gs (amongs_in sofar 0 + 1) p (put (among false (is_empty gs)) p sofar)
   noted_command (among_ (starter rs) gs) p sofar =
       noted_groups gs (amongs_in sofar 0 + 1) p (put region_end p (noted_rows rs p (put (among true (is_empty gs)) p sofar)))
+  noted_command _ p sofar = sofar
 
   pub noted_rows : Rows → Site → List Occurrence → List Occurrence
   noted_rows no_rows p sofar = sofar
@@ -127,11 +120,10 @@ abbrev mutual
 
 abbrev pub noted_plain : Plain → Site → List Occurrence → List Occurrence
 noted_plain (declaration k ns) p sofar = fold (λ s n. put (declares k n) p s) sofar ns
-noted_plain (escapes a b) p sofar = sofar
-noted_plain (macro n b q) p sofar = sofar
 noted_plain (routine n c os) p sofar = put region_end p (noted_others os p (noted_command c p (put (defines_routine n) p sofar)))
 noted_plain (grouping n a ts) p sofar =
     fold (λ s x. elim x [ term o b ↦ noted_name use_as.Term b p s ]) (noted_name use_as.Term a p (put (defines_grouping n) p sofar)) ts
+noted_plain _ p sofar = sofar
 
 -- the occurrences of these items; n is the number of the first one
 abbrev pub noted_items : List ItemInMode → ℕ → List Occurrence → List Occurrence

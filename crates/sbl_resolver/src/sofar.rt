@@ -2,6 +2,7 @@
 
 ghost use Rattle.std.specs.Prelude.{◌≡◌, [], List, ◌+◌, OnOk, ◌≤◌, length};
 ghost use Rattle.sbl_resolver.specs.Occurrences as spec;
+ghost use Rattle.sbl_resolver.specs.inside.CheckParts as parts;
 ghost use Rattle.sbl_resolver.specs.OccurrenceView.{view_notice, view_occurrences};
 
 use crate::occurrences::{Notice, Occurrence, Site};
@@ -69,7 +70,7 @@ impl<'a> SoFar<'a> {
 /// Returns the number of amongs of the current routine after an occurrence, given the number before it. `next` is that
 /// number plus 1.
 fn amongs_after(notice: Notice, amongs: usize, next: usize) -> usize
-    ensures { next ≡ amongs + 1 → result ≡ spec.amongs_after (view_notice notice.entry) amongs }
+    ensures { next ≡ amongs + 1 → result ≡ parts.amongs_after (view_notice notice.entry) amongs }
 {
     match notice {
         Notice::DefinesRoutine(_) => 0,

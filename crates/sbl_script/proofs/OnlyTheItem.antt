@@ -18,7 +18,8 @@ use Rattle.sbl_script.specs.declared.edit_fault.EditFault.TheVariants as edits
 use Rattle.sbl_ast.specs.Source.{Source}
 use Rattle.sbl_script.specs.Reading.{IsCheckFault}
 use Rattle.sbl_resolver.specs.Bodies.{body_in}
-use Rattle.sbl_resolver.specs.Checks.{declared_as, kind_of, defined_at, definition_of, waits_after, is_awaited, is_text_of, is_kind, has_external, fault_at, fault_of, WellDeclared}
+use Rattle.sbl_resolver.specs.Checks.{kind_of, defined_at, definition_of, is_awaited, is_text_of, is_kind, has_external, fault_at, fault_of, WellDeclared}
+use Rattle.sbl_resolver.specs.inside.CheckParts.{declared_as, waits_after}
 use Rattle.sbl_resolver.specs.inside.CheckParts.{is_text, has_text, is_some_and}
 use Rattle.sbl_resolver.specs.Laws.{EachPasses, IsFirst}
 use Rattle.sbl_script.specs.Edits.{ScriptEdit, body, terms, changes, is_routine_named, is_grouping_named, items_with}

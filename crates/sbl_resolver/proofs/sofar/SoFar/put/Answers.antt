@@ -1,5 +1,6 @@
 use Rattle.std.proofs.Common.{◌≡◌, ◌+◌, ◌∙◌, ap, sym}
-use Rattle.sbl_resolver.specs.Occurrences.{amongs_after, amongs_in}
+use Rattle.sbl_resolver.specs.Occurrences.{amongs_in}
+use Rattle.sbl_resolver.specs.inside.CheckParts.{amongs_after}
 use Rattle.sbl_resolver.specs.OccurrenceView.{view_notice, view_occurrences}
 use Rattle.sbl_resolver.proofs.Counted.{amongs_after_push}
 use Rattle.sbl_resolver.proofs.sofar.SoFar.put.Goals as goal
