@@ -1,5 +1,5 @@
 -- The tokens of the language that are not supported.
-use Rattle.std.specs.Prelude.{Bool, List, [], ◌∷◌}
+use Rattle.std.specs.Prelude.{Bool, [], ◌∷◌}
 use Rattle.std.specs.List.{list_any}
 use Rattle.sbl_token.specs.Lexemes.{Lexeme, same_lexeme, word, sign}
 use Rattle.sbl_token.specs.declared.words.Word.TheVariants as words

@@ -3,8 +3,7 @@ use Rattle.std.proofs.Common.{◌≡◌, ℕ, List, [], ◌∷◌, ◌++◌, Res
 use Rattle.std.proofs.lemmas.List.{append-nil}
 use Rattle.std.specs.Prelude.{is_ok, if◌then◌else◌}
 use Rattle.sbl_ast.specs.Terminal.{Terminal}
-use Rattle.sbl_print.specs.Canonical.{space}
-use Rattle.sbl_print.specs.Adding.{token_text, more, Adds, Begins}
+use Rattle.sbl_print.specs.Adding.{space, token_text, more, Adds, Begins}
 
 -- what a call promises where it was not refused
 pub if_ok : {T E P Q : Type 0} (r : Result T E) → OnOk r P → (P → Q) → OnOk r Q

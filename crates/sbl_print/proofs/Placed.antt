@@ -11,8 +11,7 @@ use Rattle.sbl_ast.specs.Spelled.{argument_terminal, spelled_expression, spelled
 use Rattle.sbl_ast.specs.TerminalPlaces.{AtDepth, placed_expression, placed_sums, placed_product, placed_scales, placed_factor, placed_entry, placed_entries, placed_command, placed_rows, placed_others, placed_starter, placed_groups, placed_names, placed_base, placed_terms, placed_plain, tokens}
 use Rattle.sbl_ast.specs.Places as places
 use Rattle.sbl_ast.proofs.Lexed.{lexemes_at_depth, plain_lexed, tokens_lexed}
-use Rattle.sbl_print.specs.Adding.{token_text, Begins, BeginsLine}
-use Rattle.sbl_print.specs.Canonical.{space}
+use Rattle.sbl_print.specs.Adding.{space, token_text, Begins, BeginsLine}
 
 abbrev Ts : Type 0
 Ts = List Terminal

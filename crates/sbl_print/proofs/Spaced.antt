@@ -14,7 +14,8 @@ use Rattle.sbl_ast.specs.Places as places
 use Rattle.sbl_ast.specs.Places.{AtDepth, placed_item, placed_plain, tokens}
 use Rattle.sbl_ast.specs.inside.PlaceParts.{placed_items, placed_plains}
 use Rattle.sbl_ast.proofs.After.{plain_before}
-use Rattle.sbl_print.specs.Canonical.{space, line_feed, line, plain_text, item_text, canonical}
+use Rattle.sbl_print.specs.Adding.{space}
+use Rattle.sbl_print.specs.Canonical.{line, plain_text, item_text, canonical}
 use Rattle.sbl_print.specs.SpacedItems.{IsSpaced}
 
 one_byte : (c : ℕ) → c < 128 → encode_utf8_all (c ∷ []) ≡ c ∷ []
@@ -28,11 +29,11 @@ after_first x (y ∷ ys) = record { lexeme = x; space = 32 } ∷ after_first y y
 
 line_joined : (x : Lexeme) (xs : List Lexeme) → spaced_text (after_first x xs) ≡ line (x ∷ xs)
 line_joined x [] =
-    ap (λ (b : List ℕ). lexeme_text x ++ (b ++ [])) (one_byte 10 (omega arith)) ∙ sym (append_assoc (lexeme_text x) [] line_feed)
+    ap (λ (b : List ℕ). lexeme_text x ++ (b ++ [])) (one_byte 10 (omega arith)) ∙ sym (append_assoc (lexeme_text x) [] (10 ∷ []))
 line_joined x (y ∷ ys) =
     ap (λ (b : List ℕ). lexeme_text x ++ (b ++ spaced_text (after_first y ys))) (one_byte 32 (omega arith))
     ∙ ap (λ (b : List ℕ). lexeme_text x ++ 32 ∷ b) (line_joined y ys)
-    ∙ sym (append_assoc (lexeme_text x) (32 ∷ join_by lexeme_text space (y ∷ ys)) line_feed)
+    ∙ sym (append_assoc (lexeme_text x) (32 ∷ join_by lexeme_text space (y ∷ ys)) (10 ∷ []))
 
 line_tokens : (x : Lexeme) (xs : List Lexeme) → lexemes_of (after_first x xs) ≡ x ∷ xs
 line_tokens x [] = refl

@@ -1,5 +1,5 @@
 -- What is appended to a line that has a token.
-use Rattle.std.specs.Prelude.{◌≡◌, ℕ, List, ◌∷◌, ◌++◌}
+use Rattle.std.specs.Prelude.{◌≡◌, ℕ, List, [], ◌∷◌, ◌++◌}
 use Rattle.std.specs.List.{flat_map, join_by}
 use Rattle.sbl_token.specs.Lexemes.{Lexeme}
 use Rattle.sbl_text.specs.SpacedTokens.{lexeme_text}
@@ -9,7 +9,10 @@ use Rattle.sbl_ast.specs.Terminal as t
 use Rattle.sbl_ast.specs.Tree as trees
 use Rattle.sbl_ast.specs.inside.ViewParts.{view_groups}
 use Rattle.sbl_ast.specs.declared.tree.Group.{Group}
-use Rattle.sbl_print.specs.Canonical.{space}
+
+-- what is between two tokens of a line
+abbrev pub space : List ℕ
+space = 32 ∷ []
 
 -- the text of a token with this role
 abbrev pub token_text : Terminal → List ℕ

@@ -8,15 +8,9 @@ use Rattle.sbl_text.specs.SpacedTokens.{lexeme_text}
 use Rattle.sbl_ast.specs.Tree.{Plain, Item, plain, backward}
 use Rattle.sbl_ast.specs.Places.{placed_plain, tokens}
 
-abbrev pub space : List ℕ
-space = 32 ∷ []
-
-abbrev pub line_feed : List ℕ
-line_feed = 10 ∷ []
-
 -- the tokens separated by single spaces, and a line feed
 abbrev pub line : List Lexeme → List ℕ
-line ls = join_by lexeme_text space ls ++ line_feed
+line ls = join_by lexeme_text (32 ∷ []) ls ++ 10 ∷ []
 
 -- an item that is allowed in a `backwardmode` is one line of its tokens
 abbrev pub plain_text : Plain → List ℕ

@@ -19,7 +19,7 @@ use Rattle.sbl_resolver.specs.declared.occurrences.Use.{Use}
 use Rattle.sbl_resolver.specs.declared.occurrences.Use.TheVariants as use_as
 use Rattle.sbl_resolver.specs.declared.occurrences.Site.{Site}
 use Rattle.sbl_resolver.specs.Bodies.{body_in}
-use Rattle.sbl_resolver.specs.Occurrences.{Occurrence, Notice, declares, defines_routine, defines_grouping, uses}
+use Rattle.sbl_resolver.specs.Occurrences.{Occurrence, declares, defines_routine, defines_grouping, uses}
 use Rattle.sbl_resolver.specs.Occurrences.{substring, among, string, backwards, region_end, occurrences_of}
 
 -- ---- what occurrences say about a name

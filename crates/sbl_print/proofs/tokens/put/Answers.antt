@@ -1,5 +1,5 @@
 use Rattle.std.proofs.Common.{string_bytes, ap, ◌∙◌, List, ℕ, ◌++◌, append_assoc}
-use Rattle.sbl_print.specs.Canonical.{space}
+use Rattle.sbl_print.specs.Adding.{space}
 use Rattle.sbl_print.proofs.Adding.{if_put, one_more}
 use Rattle.sbl_print.proofs.tokens.put.Goals as goal
 

@@ -2,7 +2,7 @@ use Rattle.std.proofs.Common.{string_bytes, ap, ◌∙◌, List, ℕ, [], ◌++�
 use Rattle.std.proofs.lemmas.List.{append-nil}
 use Rattle.std.specs.Char.{encode_utf8}
 use Rattle.sbl_ast.specs.Terminal as t
-use Rattle.sbl_print.specs.Canonical.{space}
+use Rattle.sbl_print.specs.Adding.{space}
 use Rattle.sbl_print.proofs.Adding.{if_put, one_more}
 use Rattle.sbl_print.proofs.tokens.put_inserts.Goals as goal
 
