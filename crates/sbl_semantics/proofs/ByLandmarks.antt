@@ -13,7 +13,7 @@ use Rattle.sbl_ast.specs.declared.tree.Simple.TheVariants as simples
 use Rattle.sbl_ast.specs.Tree.{Command, Rows, Others, Starter, Groups, bracket, simple_, literal_, name_, non_, prefixed, counted, move_, named, splice_, setlimit_, assign_, compare_, compare_values_, among_, no_rows, row, no_others, joined, no_starter, starter, bare, group}
 use Rattle.sbl_semantics.specs.Control.{at_end, back_in, enter, pay_first}
 use Rattle.sbl_semantics.specs.Items.{Body, DeclaredNames, body_named, char_class_of, classes_after, known_in, place_of}
-use Rattle.sbl_semantics.specs.Landmarks.{Among, Landmark, substring, region_end, among, mode_under, among_for, amongs_in, ends_in_substring, next_among, landmarks, landmarks_in_rows, landmarks_in_others, landmarks_in_starter, landmarks_in_groups}
+use Rattle.sbl_semantics.specs.Landmarks.{Among, Landmark, substring, region_end, among, mode_under, amongs_in, ends_in_substring, next_among, landmarks, landmarks_in_rows, landmarks_in_others, landmarks_in_starter, landmarks_in_groups}
 use Rattle.sbl_semantics.specs.Meaning.{prefixed_does, counted_does, joined_does, limited_does, simple_does, worth, search}
 use Rattle.sbl_semantics.specs.Meaning as new
 use Rattle.sbl_semantics.specs.inside.RegionRuns as old
@@ -21,6 +21,10 @@ use Rattle.sbl_semantics.specs.Regions.{among_at, first, first_others, first_row
 use Rattle.sbl_semantics.specs.Limit.{max_levels}
 use Rattle.sbl_semantics.specs.State.{Doing, Ending, Signals, State, after}
 use Rattle.sbl_semantics.proofs.LandmarkFacts.{amongs_append, ends_append, first_is, first_others_is, first_rows_is, none_after_starter, none_more, number_is, number_others, number_rows, number_starter, waits_is, waits_others_is, waits_rows_is, waits_through}
+
+-- the among that is searched at the landmark with number i
+abbrev among_for : List Landmark → ℕ → Option Among
+among_for ls i = next_among (amongs_in (take i ls)) (drop i ls)
 
 -- the landmarks of a part in those of its routine, and what the other form says of its place
 record At (ls own : List Landmark) (i k : ℕ) (w : Bool) (n : Option Among) : Type 0 where

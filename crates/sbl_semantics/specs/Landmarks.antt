@@ -1,6 +1,6 @@
 -- The landmarks of a routine: its `substring`s, its amongs, and the ends of the regions inside it, in the order of the text. A routine's
 -- body, a group's command and a starter are a region each, and a `substring` belongs to the next `among` of its own region.
-use Rattle.std.specs.Prelude.{ℕ, suc, Bool, true, false, List, [], ◌∷◌, ◌++◌, Option, Some, None, take, drop}
+use Rattle.std.specs.Prelude.{ℕ, suc, Bool, true, false, List, [], ◌∷◌, ◌++◌, Option, Some, None}
 use Rattle.std.specs.List.{fold}
 use Rattle.sbl_ast.specs.declared.tree.Prefix.{Prefix}
 use Rattle.sbl_ast.specs.declared.tree.Prefix.TheVariants as prefixes
@@ -69,7 +69,3 @@ abbrev pub next_among : ℕ → List Landmark → Option Among
 next_among k (among m gs ∷ ls) = Some (record { number = k; mode = m; groups = gs })
 next_among k (substring ∷ ls) = next_among k ls
 next_among k _ = None
-
--- the among that is searched at the landmark with number i of a routine: the among there, or that of the `substring` there
-abbrev pub among_for : List Landmark → ℕ → Option Among
-among_for ls i = next_among (amongs_in (take i ls)) (drop i ls)

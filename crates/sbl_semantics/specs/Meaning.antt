@@ -1,7 +1,7 @@
 -- What a run of a script does. Each command of its trees is defined by what its parts do. A command takes the mode m
 -- and the state s. It ends with the signal t or f and a new state, or it stops the run.
 use Rattle.std.specs.Prelude.{ℕ, ℤ, pos, negsuc, zero, suc, ◌+◌, ◌+ℤ◌, ◌-ℤ◌, ◌*ℤ◌, neg_ℤ, ◌-◌, Bool, true, false, not, List, [], ◌∷◌, ◌++◌, length}
-use Rattle.std.specs.Prelude.{map, take, replicate, nat_eq, int_lt, if◌then◌else◌, Option, Some, None, Ok, slice_index_or, slice_set}
+use Rattle.std.specs.Prelude.{map, take, drop, replicate, nat_eq, int_lt, if◌then◌else◌, Option, Some, None, Ok, slice_index_or, slice_set}
 use Rattle.std.specs.List.{find}
 use Rattle.std.specs.Option.{option_map_or, unwrap_or}
 use Rattle.std.specs.Ordering.{int_eq}
@@ -40,7 +40,7 @@ use Rattle.sbl_semantics.specs.Items.{DeclaredNames, Body, is_member, place_of, 
 use Rattle.sbl_semantics.specs.Moves.{match, one_of, hop, at_mark, to_mark}
 use Rattle.sbl_semantics.specs.Numbers.{Value, natural, continue_with, value_in_range}
 use Rattle.sbl_semantics.specs.Numbers.{rounded_quotient, with_value, with_both, limit_value, integer_at}
-use Rattle.sbl_semantics.specs.Landmarks.{Among, Landmark, among_for, amongs_in, ends_in_substring, landmarks, landmarks_in_others}
+use Rattle.sbl_semantics.specs.Landmarks.{Among, Landmark, amongs_in, ends_in_substring, landmarks, landmarks_in_others, next_among}
 use Rattle.sbl_semantics.specs.Landmarks.{landmarks_in_rows, landmarks_in_starter, mode_under}
 use Rattle.sbl_semantics.specs.Control.{turns, times, seeks, set_limit, at_end, pay_first, enter, back_in}
 use Rattle.sbl_semantics.specs.Choices.{touch_among, conclude_search}
@@ -254,9 +254,10 @@ module _ (ns : DeclaredNames) (class : List ℕ → ℕ → Bool) (call : List �
       if is_member (ns kinds.Groupings) n then tests ns class true n m s else
       call n m s
 
-  -- a search at the landmark with number i of a routine with these landmarks; a `substring` without an among signals f
+  -- a search at the landmark with number i of a routine with these landmarks: of the among there, or of that of the `substring` there;
+  -- f if the `substring` has none
   abbrev pub search_at : List Landmark → ℕ → Doing
-  search_at ls i m s = option_map_or (λ a. search call a m s) (among_for ls i) (Signals false s)
+  search_at ls i m s = option_map_or (λ a. search call a m s) (next_among (amongs_in (take i ls)) (drop i ls)) (Signals false s)
 
   module _ (ls : List Landmark) where
     abbrev mutual

@@ -10,21 +10,23 @@ use Rattle.sbl_semantics.specs.Touches.{with_touch}
 use Rattle.sbl_ast.specs.declared.mode.Mode.{Mode}
 use Rattle.sbl_ast.specs.declared.mode.Mode.TheVariants.{Forward, Backward}
 
+-- if the test is passed, moves over n characters, and otherwise signals f
+abbrev pub move_if : Bool → ℕ → Mode → State → Ending
+move_if passed n m s = if passed then Signals true (move_cursor m n s) else Signals false s
+
 -- moves over a string that is a prefix of the text ahead
 abbrev pub match : List ℕ → Mode → State → Ending
-match string m s =
-    if starts_with nat_eq (ahead m s) (read_as m string) then Signals true (move_cursor m (length string) s) else Signals false s
+match string m s = move_if (starts_with nat_eq (ahead m s) (read_as m string)) (length string) m s
 
 -- a grouping moves over one character of its class, `non` over one that is not in it
 abbrev pub one_of : Bool → (ℕ → Bool) → Mode → State → Ending
 one_of wanted class m s =
-    if option_map_or (λ c. if wanted then class c else not (class c)) (slice_get (ahead m s) 0) false
-    then Signals true (move_cursor m 1 s) else Signals false s
+    move_if (option_map_or (λ c. if wanted then class c else not (class c)) (slice_get (ahead m s) 0) false) 1 m s
 
 -- `hop` moves over this many characters, and `next` over one; a negative number signals f
 abbrev pub hop : Option ℕ → Mode → State → Ending
 hop None m s = Signals false s
-hop (Some n) m s = if nat_le n (room m s) then Signals true (move_cursor m n s) else Signals false s
+hop (Some n) m s = move_if (nat_le n (room m s)) n m s
 
 -- `atmark` tests that the cursor is at an offset
 abbrev pub at_mark : Option ℕ → State → Ending

@@ -20,6 +20,10 @@ set_end false s = record s { ket = s.cursor }
 abbrev pub is_slice : State → Bool
 is_slice s = nat_le s.bra s.ket && nat_le (s.ket + s.beyond) (length s.text)
 
+-- ends in this way if there is a slice
+abbrev pub on_slice : State → Ending → Ending
+on_slice s e = if is_slice s then e else Stops Slice s
+
 -- where a cursor goes if bra..ket is replaced by n characters
 abbrev pub cursor_after_splice : ℕ → ℕ → ℕ → ℕ → ℕ
 cursor_after_splice n bra ket cursor = if nat_le ket cursor then cursor + n - (ket - bra) else (if nat_lt bra cursor then bra else cursor)
@@ -36,16 +40,12 @@ replace_slice string s =
 -- `<- S`; `delete` is `<- ''`
 abbrev pub replace : List ℕ → State → Ending
 replace string s =
-    if is_slice s
-    then (if nat_le (length s.text + length string - (s.ket - s.bra)) max_text_length then Signals true (replace_slice string s) else Stops TooLong s)
-    else Stops Slice s
+    on_slice s
+    (if nat_le (length s.text + length string - (s.ket - s.bra)) max_text_length then Signals true (replace_slice string s) else Stops TooLong s)
 
 -- `-> s` copies the slice to a string variable
 abbrev pub keep : ℕ → State → Ending
-keep x s =
-    if is_slice s
-    then Signals true (record s { strings = slice_set s.strings x (take (s.ket - s.bra) (drop s.bra s.text)) })
-    else Stops Slice s
+keep x s = on_slice s (Signals true (record s { strings = slice_set s.strings x (take (s.ket - s.bra) (drop s.bra s.text)) }))
 
 -- where an end of the slice goes if n characters are inserted at an offset
 abbrev pub end_after_insertion : ℕ → ℕ → ℕ → ℕ
