@@ -59,13 +59,9 @@ fault_of_script script.AmongCount = fault.AmongCount
 fault_of_script (script.Script f) = fault.Script f
 fault_of_script script.OutOfMemory = fault.OutOfMemory
 
--- the highest limit that may be set
-abbrev pub max_limit : ℕ
-max_limit = 10000000
-
 -- whether the limit may be set
 abbrev pub is_limit : ℕ → Bool
-is_limit n = nat_le 1 n && nat_le n max_limit
+is_limit n = nat_le 1 n && nat_le n 10000000
 
 -- the edit is refused with this fault, whatever the count of runs is
 abbrev pub IsRefused : Contents → Edit → EditFault → Type 0
