@@ -4,7 +4,8 @@ ghost use Rattle.std.specs.Prelude.{◌≡◌, ◌||◌, Bool, List, ℕ, map, t
 ghost use Rattle.std.specs.List.{list_any};
 ghost use Rattle.sbl_bench.specs.KeptRuns.{setting_of};
 ghost use Rattle.sbl_bench.specs.Vocabulary.{is_word};
-ghost use Rattle.sbl_machine.specs.BuiltFrom.{is_affected_by, any_names, names};
+ghost use Rattle.sbl_machine.specs.BuiltFrom.{is_affected_by, any_names};
+ghost use Rattle.sbl_machine.specs.inside.BuiltFromParts.{names};
 ghost use Rattle.sbl_machine.specs.ItemRefs.{item_of_ref, items_of_refs};
 ghost use Rattle.sbl_semantics.specs.TouchedItems.{Item', Grouping, same_item};
 ghost use Rattle.sbl_script.specs.ParsedScript.{source_of};

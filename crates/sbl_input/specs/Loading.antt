@@ -33,33 +33,30 @@ TookWords old new words = WordLines words × (Took old new (words ++ point ∷ [
 
 -- ---- reading
 
--- a block was taken whose text is not too long
-abbrev pub TookFitting : Option (List ℕ) → Option (List ℕ) → Type 0
-TookFitting old new = (lines : List (List ℕ)) × TookBlock old new lines × (length (made_text lines) ≤ max_script)
+-- a block was taken, and this holds of its text
+abbrev pub TookText : Option (List ℕ) → Option (List ℕ) → (List ℕ → Type 0) → Type 0
+TookText old new P = (lines : List (List ℕ)) × TookBlock old new lines × P (made_text lines)
 
 -- The text of the script block. Or a block that was read to its end is too long, or it is not and an allocation for it failed. Or the
 -- block has no end.
 abbrev pub ReadsScript : Option (List ℕ) → Option (List ℕ) → Result (Vec ℕ Global) LoadFault → Type 0
-ReadsScript old new (Ok text) =
-    (lines : List (List ℕ)) × TookBlock old new lines × (text.items ≡ made_text lines) × (length (made_text lines) ≤ max_script)
-ReadsScript old new (Err (Script script.ScriptTooLong)) = (lines : List (List ℕ)) × TookBlock old new lines × (max_script < length (made_text lines))
+ReadsScript old new (Ok text) = TookText old new (λ made. (text.items ≡ made) × (length made ≤ max_script))
+ReadsScript old new (Err (Script script.ScriptTooLong)) = TookText old new (λ made. max_script < length made)
 ReadsScript old new (Err (Script f)) = ⊥
 ReadsScript old new (Err (Open f)) = ⊥
-ReadsScript old new (Err (Input fault.OutOfMemory)) = TookFitting old new
+ReadsScript old new (Err (Input fault.OutOfMemory)) = TookText old new (λ made. length made ≤ max_script)
 ReadsScript old new (Err (Input f)) = Breaks BlockLines old new f
 
 -- ---- loading
 
 -- A script block was taken, and is read as this script with this external.
 abbrev pub TookSource : Option (List ℕ) → Option (List ℕ) → List ℕ → Source → Type 0
-TookSource old new external s =
-    (lines : List (List ℕ)) × TookBlock old new lines × IsScriptOf (made_text lines) external s
+TookSource old new external s = TookText old new (λ text. IsScriptOf text external s)
 
 -- A script block was taken, and with this external its text has this fault; or the text is not too long and an allocation failed.
 abbrev pub TookFault : Option (List ℕ) → Option (List ℕ) → List ℕ → ScriptFault → Type 0
 TookFault old new external f =
-    (lines : List (List ℕ)) × TookBlock old new lines
-    × (((f ≡ script.OutOfMemory) × (length (made_text lines) ≤ max_script)) ⊎ IsFaultOf (made_text lines) external f)
+    TookText old new (λ text. ((f ≡ script.OutOfMemory) × (length text ≤ max_script)) ⊎ IsFaultOf text external f)
 
 -- An input is a script block that is read as this script with this external, followed by these words.
 abbrev pub IsInput : Option (List ℕ) → Option (List ℕ) → List ℕ → Source → List (List ℕ) → Type 0
@@ -84,7 +81,8 @@ IsLoadFault old new external (Input fault.NotText) =
     AfterSource old external (λ between. (done : List (List ℕ)) × (first : List ℕ) × WordLines done × (first ≢ point) × (length first ≤ max_line)
     × (is_utf8 first ≡ false) × Took between new (done ++ first ∷ []))
 IsLoadFault old new external (Input fault.OutOfMemory) =
-    TookFitting old new ⊎ AfterSource old external (λ between. (lines : List (List ℕ)) × BlockLines lines × Took between new lines)
+    TookText old new (λ text. length text ≤ max_script)
+    ⊎ AfterSource old external (λ between. (lines : List (List ℕ)) × BlockLines lines × Took between new lines)
 IsLoadFault old new external (Input f) = Breaks BlockLines old new f ⊎ AfterSource old external (λ between. Breaks WordLines between new f)
 
 -- The result of loading: the bench of the script and the words, or why there is none.

@@ -13,7 +13,8 @@ use Rattle.sbl_ast.specs.Tree.{Argument, written_out, by_name, Term, term, Plain
 use Rattle.sbl_resolver.specs.Laws.{WellDeclaredPasses}
 use Rattle.sbl_resolver.specs.Occurrences.{occurrences_of}
 use Rattle.sbl_semantics.specs.Items.{known_in, names_by, is_member}
-use Rattle.sbl_machine.specs.BuiltFrom.{names, any_names, IsClosed, IsClosedAt, and_built, is_affected_by, AffectedIsClosed}
+use Rattle.sbl_machine.specs.BuiltFrom.{any_names, IsClosed, IsClosedAt, and_built, is_affected_by, AffectedIsClosed}
+use Rattle.sbl_machine.specs.inside.BuiltFromParts.{names}
 use Rattle.sbl_machine.specs.inside.BuiltFromParts.{built_on, built_after}
 use Rattle.sbl_semantics.specs.TouchedItems.{Item', Routine, Among, Grouping}
 use Rattle.sbl_machine.proofs.GroupingNames.{IsKnown, AreKnown, names_are}

@@ -11,7 +11,8 @@ use Rattle.sbl_ast.specs.declared.tree.Additive.TheVariants.{Plus, Minus}
 use Rattle.sbl_ast.specs.declared.tree.DeclarationKind.TheVariants as kinds
 use Rattle.sbl_ast.specs.Tree.{Command, Others, Argument, written_out, by_name, Term, term, Plain, declaration, escapes, macro, routine, grouping}
 use Rattle.sbl_semantics.specs.Items.{Grouping, and_grouping, char_class_of, classes_after, is_member, known_in, term_has, terms_have}
-use Rattle.sbl_machine.specs.BuiltFrom.{names, any_names, IsClosedAt}
+use Rattle.sbl_machine.specs.BuiltFrom.{any_names, IsClosedAt}
+use Rattle.sbl_machine.specs.inside.BuiltFromParts.{names}
 use Rattle.sbl_machine.specs.inside.BuiltFromParts.{built_on}
 use Rattle.sbl_machine.specs.Holes.{nothing, holed_plain}
 use Rattle.sbl_semantics.specs.TouchedItems.{Item', Routine}

@@ -10,7 +10,8 @@ use Rattle.sbl_ast.specs.Tree.{Argument, written_out, by_name, Term, term, Plain
 use Rattle.sbl_resolver.specs.Checks.{WellDeclared}
 use Rattle.sbl_resolver.specs.Laws.{WellDeclaredPasses}
 use Rattle.sbl_semantics.specs.Items.{is_member}
-use Rattle.sbl_machine.specs.BuiltFrom.{names, any_names, IsClosed, IsClosedAt, and_built, is_affected_by, affected_by, meets, meets_one}
+use Rattle.sbl_machine.specs.BuiltFrom.{any_names, IsClosed, IsClosedAt, and_built, is_affected_by, affected_by, meets, meets_one}
+use Rattle.sbl_machine.specs.inside.BuiltFromParts.{names}
 use Rattle.sbl_machine.specs.inside.BuiltFromParts.{built_on, built_after}
 use Rattle.sbl_machine.specs.DifferLaws.{OneAffects, OneMeets}
 use Rattle.sbl_semantics.specs.Outcome.{touches_of}

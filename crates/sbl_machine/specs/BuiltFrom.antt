@@ -1,9 +1,9 @@
 -- What is built from a grouping: the groupings that name it among their terms, or name another that is built from it.
-use Rattle.std.specs.Prelude.{◌≡◌, ℕ, Bool, true, false, ◌||◌, List, [], ◌∷◌, ◌++◌, map, if◌then◌else◌, ⊤}
+use Rattle.std.specs.Prelude.{◌≡◌, ℕ, Bool, true, false, List, [], ◌∷◌, ◌++◌, map, if◌then◌else◌, ⊤}
 use Rattle.std.specs.List.{AllByRecursion, fold, list_any}
 use Rattle.sbl_ast.specs.declared.tree.Additive.TheVariants.{Plus}
 use Rattle.sbl_ast.specs.Order.{in_order}
-use Rattle.sbl_ast.specs.Tree.{Argument, written_out, by_name, Term, term, Plain, grouping}
+use Rattle.sbl_ast.specs.Tree.{written_out, by_name, Term, term, Plain, grouping}
 use Rattle.sbl_semantics.specs.Items.{is_member}
 use Rattle.sbl_resolver.specs.Checks.{WellDeclared}
 use Rattle.sbl_semantics.specs.Outcome.{touches_of}
@@ -12,15 +12,9 @@ use Rattle.sbl_ast.specs.Source.{Source}
 
 -- ---- terms that name a grouping
 
-module _ (chosen : List ℕ → Bool) where
-  -- whether a term names a chosen grouping
-  abbrev pub names : Argument → Bool
-  names (written_out q) = false
-  names (by_name n) = chosen n
-
-  abbrev pub any_names : List Term → Bool
-  any_names [] = false
-  any_names (term o a ∷ ts) = names a || any_names ts
+-- whether one of the terms names a chosen grouping
+abbrev pub any_names : (List ℕ → Bool) → List Term → Bool
+any_names chosen ts = list_any (λ t. elim t [ term o a ↦ elim a [ written_out q ↦ false | by_name n ↦ chosen n ] ]) ts
 
 -- ---- sets of items that are closed under what is built from them
 

@@ -14,7 +14,7 @@ use std::alloc::{AllocError, Global};
 
 // Whether a term is the name of one of these groupings.
 fn names_one(names: &NameList, argument: &Argument) -> bool
-    ensures { result ≡ spec.names (is_member names.now) (view_argument argument.now) }
+    ensures { result ≡ parts.names (is_member names.now) (view_argument argument.now) }
 {
     match argument {
         Argument::Literal(_) => false,

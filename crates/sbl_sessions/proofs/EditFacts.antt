@@ -14,7 +14,7 @@ use Rattle.sbl_text.specs.declared.fault.ScriptFault.TheVariants as script
 use Rattle.sbl_sessions.specs.Answers.{BlockRefused, Enough, RefusedAfter, edit_text, with_line_feed}
 use Rattle.sbl_reports.specs.Block.{HasText, made_text, max_script}
 use Rattle.sbl_sessions.specs.CommandViews.{IsEditAnswer, IsTextAnswer}
-use Rattle.sbl_sessions.specs.Commands.{Bad, Command, block_command, target_of, text_of_block, with_text}
+use Rattle.sbl_sessions.specs.Commands.{Bad, Command, block_command, target_of, Makes, HasNoText, text_of_block}
 use Rattle.sbl_sessions.specs.EditFaults.{fault_in}
 
 -- where memory was refused
@@ -121,6 +121,10 @@ text_is lines few b is = let test : nat_lt max_script (length (made_text lines))
 
 text_long : (lines : List (List ℕ)) → max_script < length (made_text lines) → text_of_block lines ≡ Err script.ScriptTooLong
 text_long lines long = let test : nat_lt max_script (length (made_text lines)) ≡ true = grind (arith, nat_tests) in rw test refl
+
+-- the command of what a line replaces, and the text of its block or why it has none
+abbrev with_text : ScriptEdit → Result (List ℕ) ScriptFault → Command
+with_text what r = elim r [ Ok text ↦ Makes (Replace what text) | Err f ↦ HasNoText f ]
 
 -- the command of what a line replaces and its block
 abbrev with_target : Option ScriptEdit → List (List ℕ) → Command

@@ -64,13 +64,10 @@ text_of_block lines =
 abbrev pub target_of : List ℕ → Option ScriptEdit
 target_of line = if is_utf8 line then option_and_then (λ target. target (argument line)) (block_word (command_word line)) else None
 
-abbrev pub with_text : ScriptEdit → Result (List ℕ) ScriptFault → Command
-with_text what (Ok text) = Makes (edits.Replace what text)
-with_text what (Err f) = HasNoText f
-
 -- a bad line comes before a fault of its block
 abbrev pub block_command : List ℕ → List (List ℕ) → Command
-block_command line lines = option_map_or (λ what. with_text what (text_of_block lines)) (target_of line) Bad
+block_command line lines =
+    option_map_or (λ what. elim (text_of_block lines) [ Ok text ↦ Makes (edits.Replace what text) | Err f ↦ HasNoText f ]) (target_of line) Bad
 
 -- ---- both
 

@@ -1,6 +1,7 @@
 use Rattle.std.proofs.Common.{◌≡◌, ◌∙◌, ◌&&◌, ◌||◌, Bool, List, ℕ, ap, map, string_bytes, sym, true}
 use Rattle.std.specs.List.{list_any}
-use Rattle.sbl_machine.specs.BuiltFrom.{any_names, names}
+use Rattle.sbl_machine.specs.BuiltFrom.{any_names}
+use Rattle.sbl_machine.specs.inside.BuiltFromParts.{names}
 use Rattle.sbl_machine.specs.ItemRefs.{items_of_refs}
 use Rattle.sbl_semantics.specs.TouchedItems.{Grouping, same_item}
 use Rattle.sbl_ast.specs.View.{view_argument, view_plain, view_term}
