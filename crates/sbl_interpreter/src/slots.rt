@@ -3,35 +3,72 @@
 ghost use Rattle.std.specs.Prelude.{◌≡◌, slice_index_or, slice_set};
 ghost use Rattle.sbl_run_state.specs.Endings.{IsSaved};
 ghost use Rattle.sbl_code.specs.Slots.{no_cursor, no_cursors};
+ghost use Rattle.sbl_interpreter.specs.SmallCursors.{large_of};
 
 use sbl_code::SLOTS;
 use sbl_semantics::SavedCursor;
 use std::marker::Model;
 
+/// A saved cursor in few bytes: a runner clears its slots each time that it begins.
+#[derive(Clone, Copy)]
+struct SmallCursor {
+    cursor: u16,
+    beyond: u16,
+    length: u16,
+}
+
 /// A cursor in an empty text, which a slot holds before one is saved in it.
-const NO_CURSOR: SavedCursor = SavedCursor {
+const NO_CURSOR: SmallCursor = SmallCursor {
     cursor: 0,
     beyond: 0,
     length: 0,
 };
 
+impl SmallCursor {
+    /// Returns a saved cursor in few bytes.
+    #[inline(always)]
+    fn of(from: SavedCursor) -> SmallCursor
+        requires { IsSaved from }
+        ensures { large_of result ≡ from }
+    {
+        SmallCursor {
+            cursor: from.cursor as u16,
+            beyond: from.beyond as u16,
+            length: from.length as u16,
+        }
+    }
+
+    /// Returns the saved cursor.
+    #[inline(always)]
+    fn large(self) -> SavedCursor
+        ensures { result ≡ large_of self }
+    {
+        SavedCursor {
+            cursor: self.cursor as usize,
+            beyond: self.beyond as usize,
+            length: self.length as usize,
+        }
+    }
+}
+
 /// Saved cursors, by slot.
 #[derive(Drop)]
 pub struct SavedCursors {
-    cursors: [SavedCursor; 4],
+    cursors: [SmallCursor; 4],
 }
 
 impl Model for SavedCursors {
-    ghost use Rattle.std.specs.Prelude.{◌≡◌, ℕ, List, length, slice_index_or};
+    ghost use Rattle.std.specs.Prelude.{◌≡◌, ℕ, List, length, map, slice_index_or};
     ghost use Rattle.sbl_semantics.specs.declared.cursor.SavedCursor.{SavedCursor};
     ghost use Rattle.sbl_run_state.specs.Endings.{IsSaved};
     ghost use Rattle.sbl_code.specs.Slots.{no_cursor};
+    ghost use Rattle.sbl_interpreter.specs.SmallCursors.{large_of};
 
     ghost Value = { List SavedCursor };
 
-    ghost view = { λ s. s.cursors };
+    ghost view = { λ s. map large_of s.cursors };
 
-    ghost invariant = { λ s. (length s.cursors ≡ 4) × ((j : ℕ) → IsSaved (slice_index_or s.cursors j no_cursor)) };
+    ghost invariant = { λ s. (length s.cursors ≡ 4) × ((j : ℕ) → IsSaved (slice_index_or (map large_of s.cursors) j no_cursor)) };
 }
 
 impl SavedCursors {
@@ -52,7 +89,7 @@ impl SavedCursors {
         ensures { self.new ≡ slice_set self.old slot cursor }
     {
         if slot < SLOTS {
-            self.cursors[slot] = cursor;
+            self.cursors[slot] = SmallCursor::of(cursor);
         }
     }
 
@@ -63,9 +100,9 @@ impl SavedCursors {
         ensures saved { IsSaved result }
     {
         if slot < SLOTS {
-            self.cursors[slot]
+            self.cursors[slot].large()
         } else {
-            NO_CURSOR
+            NO_CURSOR.large()
         }
     }
 }
