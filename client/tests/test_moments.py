@@ -1,5 +1,5 @@
 """2,000 random moments of `work` at a terminal, from seeds: saves, other sizes of the window, keys, pastes, Ctrl-C, a program that is killed, and
-a terminal that is closed. After each storm there is a prompt, and an edit that was typed is in the script, was said to be put aside, or is offered
+a terminal that is closed. After each storm there is a prompt, and an edit that was typed is in the script, was said to be replaced, or is offered
 by the next start. MOMENTS=N plays N of them.
 """
 import contextlib
@@ -134,8 +134,8 @@ class Player:
             if turn % 2:
                 self.close(mark)
             self.terminal.save(GOOD + "// %d\n" % self.count)
-            shown = self.terminal.got(rb"put\s+aside", PATIENCE)
-            self.case.assertRegex(shown, r"put\s+aside")
+            shown = self.terminal.got(rb"replaced", PATIENCE)
+            self.case.assertRegex(shown, r"replaced")
             self.ask("undo", rb"taken back(.|\n)*(since|from) the mark")
             self.is_there(mark)
 

@@ -43,7 +43,7 @@ class Layouts(Case):
         self.assertEqual(layout.summary(Edit("routine", Reply("done", ["ok"], []), found, own)), "this edit: 1 word, 1 renamed; " + since)
         self.assertEqual(layout.summary(Edit("routine", Reply("done", ["ok"], []), found, [])), since + " (this edit changed none)")
         aside = Edit("reload", Reply("done", ["ok"], []), [], aside=("long", "r"))
-        self.assertEqual(layout.summary(aside), "no word and no class differs from the mark; put aside: long, r (undo brings them back)")
+        self.assertEqual(layout.summary(aside), "no word and no class differs from the mark; replaced: long, r (undo brings them back)")
 
     def test_families_are_compared(self):
         self.assertEqual([layout.percent(*pair) for pair in ((0, 9), (14, 1223147), (1, 2000), (1, 0))], [" (0.0 %)", " (less than 0.1 %)", " (0.1 %)", ""])

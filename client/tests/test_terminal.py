@@ -40,7 +40,7 @@ class Sessions(Case):
         terminal.enter("routine plural", "true", ".")
         self.assertEqual(terminal.enter("show plural").split("\n"), ["typed at the prompt (routine plural), not in my.sbl:", "  define plural as true"])
         terminal.save(AUTHOR + "// new\n")
-        self.assertEqual(terminal.enter(""), "no word and no class differs from the mark; put aside: plural (undo brings it back)")
+        self.assertEqual(terminal.enter(""), "no word and no class differs from the mark; replaced: plural (undo brings it back)")
         self.assertIn("(plural)", terminal.enter("quit"))
         self.assertIn("taken back: the whole script; 3 words", terminal.enter("undo"))
         self.assertEqual(terminal.enter("save new.sbl"), "saved in new.sbl")
@@ -53,9 +53,9 @@ class Sessions(Case):
         self.assertEqual(terminal.enter("script"), AUTHOR.rstrip("\n"))
         self.assertEqual(terminal.enter("quit"), "The edits that you typed are in no file: save FILE keeps them, quit again drops them.")
         terminal.save(AUTHOR.replace("hop 5", "hop 4") + "// new\n")
-        self.assertIn("put aside: long (undo brings it back)", terminal.enter(""))
+        self.assertIn("replaced: long (undo brings it back)", terminal.enter(""))
         self.assertEqual(
-            terminal.enter("quit"), "A reload has put aside what you typed (long), and no file has it: undo goes back to it, quit again drops it.",
+            terminal.enter("quit"), "A reload replaced what you typed (long), and no file has it: undo goes back to it, quit again drops it.",
         )
         terminal.save(AUTHOR)
         terminal.enter("")
@@ -476,7 +476,7 @@ class Traps(Case):
         terminal.save(AUTHOR.replace("'ity' ", ""))
         shown = terminal.got(rb"since the mark", 5)
         self.assertRegex(shown, r"my.sbl is there again.\n(.|\n)* univers -> university")
-        self.assertIn("put aside: plural", terminal.got(None, 0.3) + shown)
+        self.assertIn("replaced: plural", terminal.got(None, 0.3) + shown)
 
     def test_words_that_are_gone_and_a_script_with_a_fault_that_is(self):
         terminal = self.begin()

@@ -15,7 +15,7 @@ GONE = 1
 
 class Edit(NamedTuple):
     """What an edit did: what differs from the mark now, and what it changed itself, if that may differ. `step` is what undo or redo did; `aside` are
-    the names of the typed edits that a reload put aside; `note` is a key of words.NOTES; `pairs` are the figures of the families before and now."""
+    the names of the typed edits that a reload replaced; `note` is a key of words.NOTES; `pairs` are the figures of the families before and now."""
 
     command: str
     reply: Reply
@@ -97,7 +97,7 @@ class Bench(Stage):
         self.written, self.refused_text, self.is_older = {}, None, False  # type: Dict[str, FileState], Optional[bytes], bool
         # The texts that were read, by their hashes; by the hash of a text that was saved to SCRIPT, what SCRIPT had before.
         self.read_texts, self.replaced = set(), {}  # type: Set[int], Dict[int, bytes]
-        # The texts that reload put aside, with the names of their edits; the words that were added; what differs from the mark; families.
+        # The texts that a reload replaced, with the names of their edits; the words that were added; what differs from the mark; families.
         self.aside, self.added, self.changes = [], [], []  # type: List[Tuple[bytes, Tuple[str, ...]]], List[str], List[Any]
         self.families, self.pairs = "", ()  # type: str, Tuple[Any, ...]
 
@@ -139,7 +139,7 @@ class Bench(Stage):
         return former is not None and new - old <= lines and not (old - new) & lines
 
     def put_aside(self) -> List[str]:
-        """Returns the names of the typed edits that reload put aside and that no file has."""
+        """Returns the names of the typed edits that a reload replaced and that no file has."""
         found = [names for text, names in self.aside if text != self.program.now.text and self.is_unsaved(text)]
         return list(dict.fromkeys(name for names in found for name in names or ("a part of the script",)))
 
@@ -253,11 +253,11 @@ class Bench(Stage):
         return "the same script" if word not in ("undo", "redo", "reload") and is_same else ""
 
     def note_text(self, word: str, before: Moment, history: Sequence[Any]) -> Optional[Tuple[str, ...]]:
-        """Notes which texts files have. Returns the names of the typed edits that a reload put aside."""
+        """Notes which texts files have. Returns the names of the typed edits that a reload replaced."""
         text, aside = self.program.now.text, None
         self.is_older = text != self.file_text and (self.is_older or word == "undo" and before.text == self.file_text)
         if word == "undo" and before.text != text:
-            # (what was put aside and undo takes back, the author drops)
+            # (what was replaced and undo takes back, the author drops)
             self.aside = [(other, names) for other, names in self.aside if other != before.text]
         if word == "reload":
             self.note_file()
@@ -270,7 +270,7 @@ class Bench(Stage):
         return aside
 
     def keep(self) -> None:
-        """Keeps what was typed for the case that the terminal is closed: the room has the current text, and the last one that was put aside."""
+        """Keeps what was typed for the case that the terminal is closed: the room has the current text, and the last one that was replaced."""
         text, aside = self.program.now.text, self.put_aside()
         if self.is_unsaved(text):
             self.kept.keep("text", text)

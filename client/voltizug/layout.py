@@ -142,7 +142,7 @@ def summary(edit: Edit) -> str:
         text = "%s%s; %s" % ("taken back" if edit.command == "undo" else "made again", ": " + short(step_of(edit.step)) if edit.step else "", text)
     if edit.aside is not None:
         names = ", ".join(map(short, edit.aside)) or "what you typed"
-        text += "; put aside: %s (undo brings %s back)" % (names, "it" if len(edit.aside) < 2 else "them")
+        text += "; replaced: %s (undo brings %s back)" % (names, "it" if len(edit.aside) < 2 else "them")
     return text
 
 

@@ -373,7 +373,7 @@ class Terminal(Desk):
         if bench.is_unsaved(bench.program.now.text):
             doubts.insert(0, "The edits that you typed are in no file: save FILE keeps them, quit again drops them.")
         elif aside:
-            doubts.insert(0, "A reload has put aside what you typed (%s), and no file has it: undo goes back to it, quit again drops it." % aside)
+            doubts.insert(0, "A reload replaced what you typed (%s), and no file has it: undo goes back to it, quit again drops it." % aside)
         return self.is_sure("quit", *doubts)
 
     def is_sure(self, line: str, *doubts: str) -> bool:

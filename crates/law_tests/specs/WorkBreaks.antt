@@ -1,33 +1,101 @@
--- The laws of work without a file of `--stop`, written out.
-use Rattle.std.specs.Prelude.{◌≡◌, ℕ, false, List, Result}
+-- The laws that no edit is broken off unless `--stop` names a file, written out.
+use Rattle.std.specs.Prelude.{◌≡◌, ◌⊎◌, ◌++◌, ℕ, false, List, [], ◌∷◌, Option, Some, None, Result, Err}
 use Rattle.sbl_bench.specs.Contents.{Contents}
-use Rattle.sbl_bench.specs.Edits.{Edits, Whole}
+use Rattle.sbl_bench.specs.Edits as bench
+use Rattle.sbl_bench.specs.Edits.{Edits, Replace, Whole}
 use Rattle.sbl_bench.specs.declared.fault.EditFault.{EditFault}
+use Rattle.sbl_bench.specs.declared.fault.EditFault.TheVariants as edit
 use Rattle.sbl_history.specs.Desks.{State}
+use Rattle.sbl_history.specs.History.{PastEdit, edit_of}
+use Rattle.sbl_history.specs.declared.history.HistoryFault.TheVariants as history
+use Rattle.sbl_input.specs.FileWords.{file_words}
+use Rattle.sbl_input.specs.declared.faults.LoadFault.TheVariants as load
+use Rattle.sbl_io.specs.Devices.{Tally}
+use Rattle.sbl_io.specs.HeldInput.{input_of}
+use Rattle.sbl_io.specs.declared.faults.ServeFault.{ServeFault}
+use Rattle.sbl_io.specs.declared.lines.Lines.{Lines}
+use Rattle.sbl_script.specs.Edits.{ScriptEdit}
 use Rattle.sbl_sessions.specs.Answers.{edit_text}
 use Rattle.sbl_sessions.specs.CommandViews.{IsTextAnswer}
 use Rattle.sbl_sessions.specs.Commands.{Command}
 use Rattle.sbl_sessions.specs.EditFaults.{fault_in}
 use Rattle.sbl_sessions.specs.Requests.{Request}
-use Rattle.sbl_work.specs.Commands.{EditWhole, Session}
-use Rattle.sbl_work.specs.Replies.{IsWorkReply}
-use Rattle.sbl_work.specs.Serving.{AreReplies, Choice}
+use Rattle.sbl_source_map.specs.Heads.{IsWithoutHead}
+use Rattle.sbl_work.specs.Commands.{EditPart, EditWhole, Redo, Session, Undo, Words}
+use Rattle.sbl_work.specs.Replies.{IsWorkReply, redo_text, undo_text, words_text}
+use Rattle.sbl_work.specs.Serving.{AreReplies, Choice, IsWork}
+use Rattle.sbl_work.specs.WholeWork.{WorksOver}
+use Rattle.sbl_work.specs.declared.files.Paths.{Paths}
 
 -- no request changes whether edits may be broken off
-abbrev pub LeaveStays : Type 0
-LeaveStays =
+abbrev pub StaysAllowed : Type 0
+StaysAllowed =
     (choices : List Choice) (s : Contents) (d : State) (requests : List Request) (replies : List (List ℕ)) (t : Contents) (e : State)
     → AreReplies choices s d requests replies t e → e.may_break ≡ d.may_break
 
--- If edits may not be broken off, a whole script is replaced as the bench replaces it.
-abbrev pub WholesAreEdited : Type 0
-WholesAreEdited =
+-- ---- the replies if edits may not be broken off
+
+-- a whole script is replaced as the bench replaces it
+abbrev pub WholeIsEdited : Type 0
+WholeIsEdited =
     (bytes : List ℕ) (s : Contents) (d : State) (text : List ℕ) (t : Contents) (e : State) → d.may_break ≡ false
     → IsWorkReply s d (EditWhole bytes) text t e
     → (result : Result (Unit {0}) EditFault) × Edits result s (Whole bytes) t × (text ≡ edit_text (fault_in result))
 
--- If edits may not be broken off, a command of a session has the session's reply.
-abbrev pub SessionsAnswer : Type 0
-SessionsAnswer =
+-- the bench replaces a part by the block without its head
+abbrev pub EditsPart : ScriptEdit → List ℕ → Contents → List ℕ → Contents → Type 0
+EditsPart what block s text t =
+    (rest : List ℕ) × (result : Result (Unit {0}) EditFault) × IsWithoutHead what block rest × Edits result s (Replace what rest) t
+    × (text ≡ edit_text (fault_in result))
+
+-- a part is replaced as the bench replaces it, or an allocation fails
+abbrev pub PartIsEdited : Type 0
+PartIsEdited =
+    (what : ScriptEdit) (block : List ℕ) (s : Contents) (d : State) (text : List ℕ) (t : Contents) (e : State) → d.may_break ≡ false
+    → IsWorkReply s d (EditPart what block) text t e
+    → EditsPart what block s text t ⊎ ((text ≡ edit_text (Some edit.OutOfMemory)) × (t ≡ s))
+
+-- the bench makes the turn of the last of these edits; or there is none, and this is the reply
+abbrev pub EditsLast : List ℕ → List PastEdit → Contents → List ℕ → Contents → Type 0
+EditsLast nothing edits s text t =
+    ((edits ≡ []) × (t ≡ s) × (text ≡ nothing))
+    ⊎ ((rest : List PastEdit) × (last : PastEdit) × (result : Result (Unit {0}) EditFault) × (edits ≡ rest ++ last ∷ [])
+    × Edits result s (edit_of last.turn) t × (text ≡ edit_text (fault_in result)))
+
+-- to undo is an edit of the bench
+abbrev pub UndoIsAnEdit : Type 0
+UndoIsAnEdit =
+    (s : Contents) (d : State) (text : List ℕ) (t : Contents) (e : State) → d.may_break ≡ false
+    → IsWorkReply s d Undo text t e → EditsLast (undo_text (Err history.Nothing)) d.past.earlier s text t
+
+-- to redo is an edit of the bench
+abbrev pub RedoIsAnEdit : Type 0
+RedoIsAnEdit =
+    (s : Contents) (d : State) (text : List ℕ) (t : Contents) (e : State) → d.may_break ≡ false
+    → IsWorkReply s d Redo text t e → EditsLast (redo_text (Err history.Nothing)) d.past.later s text t
+
+-- the bench replaces its words; or a line is no word or an allocation fails, and nothing is changed
+abbrev pub WordsAreAnEdit : Type 0
+WordsAreAnEdit =
+    (bytes : List ℕ) (s : Contents) (d : State) (text : List ℕ) (t : Contents) (e : State) → d.may_break ≡ false
+    → IsWorkReply s d (Words bytes) text t e
+    → ((result : Result (Unit {0}) EditFault) × Edits result s (bench.Words (file_words bytes)) t × (text ≡ edit_text (fault_in result)))
+    ⊎ ((f : ServeFault) × (text ≡ words_text (Err (load.Input f))) × (t ≡ s))
+
+-- a command of a session has the session's reply
+abbrev pub SessionReplies : Type 0
+SessionReplies =
     (command : Command) (s : Contents) (d : State) (text : List ℕ) (t : Contents) (e : State) → d.may_break ≡ false
     → IsWorkReply s d (Session command) text t e → IsTextAnswer s command text t
+
+-- ---- the start
+
+-- If `--stop` names no file, work starts with edits that may not be broken off, or it does not start. Readers and writers are known
+-- by numbers here.
+abbrev pub BeginsUnbroken : Type 0
+BeginsUnbroken =
+    (left held : ℕ → Option (List ℕ)) (reads writes : ℕ → Tally) (paths : Paths) (prompt : List ℕ) (lines new_lines : Lines ℕ)
+    (writer new_writer status : ℕ) → paths.stop ≡ None
+    → WorksOver left reads held writes paths prompt lines new_lines writer new_writer status
+    → (status ≡ 1) ⊎ ((s : Contents) × (d : State) × (t : Contents) × (e : State) × (served : Result (Unit {0}) ServeFault)
+    × IsWork prompt (input_of left lines) (input_of left new_lines) (held writer) (held new_writer) s d t e served × (d.may_break ≡ false))

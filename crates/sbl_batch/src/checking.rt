@@ -12,7 +12,7 @@ use csv::ByteRecord;
 use sbl_bench::{MAX_WORD_LENGTH, NoProgress, Progress};
 use sbl_input::text_line;
 use sbl_io::{ServeFault, Sink, first_line, record_line, text_of, write_all};
-use sbl_machine::{DEFAULT_LIMIT, Machine, Meter, Outcome, RunTrace, Table};
+use sbl_machine::{DEFAULT_LIMIT, Machine, Meter, Outcome, RunEnd, Table};
 use sbl_script::Script;
 use std::alloc::{AllocError, Global};
 
@@ -39,10 +39,10 @@ fn run_word(
         return Ok(Got::Refused("WordTooLong"));
     }
     // A list cannot have more lines than a meter counts, so the only error is a failed allocation.
-    let Ok(traced) = machine.trace(alloc, meter, characters.as_slice(), DEFAULT_LIMIT) else {
+    let Ok(end) = machine.run_untraced(alloc, meter, characters.as_slice(), DEFAULT_LIMIT) else {
         return Err(AllocError);
     };
-    let RunTrace { outcome, .. } = traced;
+    let RunEnd { outcome, .. } = end;
     match outcome {
         Outcome::Stem(stem) => Ok(Got::Stem(text_of(alloc, &stem)?)),
         Outcome::Refused(fault) => Ok(Got::Refused(fault.name())),

@@ -123,13 +123,12 @@ pub(crate) fn push_row(
     ensures between { OnOk result (IsBetweenLines rows.new.lines) }
 {
     // The lines of a reader are fewer than a meter counts, so the only error is a failed allocation.
-    let Ok(traced) = machine.trace(alloc, meter, characters, DEFAULT_LIMIT) else {
+    let Ok(end) = machine.run_untraced(alloc, meter, characters, DEFAULT_LIMIT) else {
         return Err(AllocError);
     };
-    meter.reuse(traced.touches);
-    rows.steps = rows.steps.saturating_add(traced.used);
-    let (kind, text) = outcome_fields(&mut rows.stem, &traced.outcome)?;
-    meter.reuse_stem(traced.outcome);
+    rows.steps = rows.steps.saturating_add(end.used);
+    let (kind, text) = outcome_fields(&mut rows.stem, &end.outcome)?;
+    meter.reuse_stem(end.outcome);
     push_line(
         alloc,
         &mut rows.lines,

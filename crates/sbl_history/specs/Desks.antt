@@ -68,7 +68,8 @@ state_of d = record {
   may_break = d.may_break;
 }
 
--- the desk at the start: these bytes are its text, nothing can be undone or redone, the mark is set, and no text was refused
+-- The desk at the start: these bytes are its text, nothing can be undone or redone, the mark is set, and no text was refused.
+-- Edits may be broken off if this is true.
 abbrev pub first_desk : Bool → Contents → List ℕ → State
 first_desk may_break s bytes = record {
   text = Some bytes;

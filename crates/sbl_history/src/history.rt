@@ -2,7 +2,8 @@
 ghost use Rattle.std.specs.Prelude.{◌≡◌, ◌≤◌, ◌<◌, ◌+◌, ◌-◌, ◌++◌, ◌∷◌, [], Some, drop, length, map, IfErr, IfOk, OnOk, OnErr, vec_len, vec_capacity};
 ghost use Rattle.sbl_bench.specs.BreakingOff.{BreaksIfTold};
 ghost use Rattle.sbl_bench.specs.KeptRuns.{contents_of};
-ghost use Rattle.sbl_history.specs.Desks.{TurnBreaksIfTold, Turns, back, past_of, text_after, text_in, view_edit, view_edits, view_step, view_text};
+ghost use Rattle.sbl_history.specs.Desks.{TurnBreaksIfTold, back, past_of, text_after, text_in, view_edit, view_edits, view_step, view_text};
+ghost use Rattle.sbl_history.specs.inside.HeldTurns.{TurnsHeld};
 ghost use Rattle.sbl_history.specs.MayBreak.{EditsOrBreaksIf};
 ghost use Rattle.sbl_history.specs.History.{ToLimit, ToText, edit_of, latest, remember_edit};
 
@@ -86,7 +87,7 @@ pub(crate) fn turn<B: BreakOff>(
     requires few { vec_len from.old + vec_len to.old ≤ 100 }
     requires room { 100 ≤ vec_capacity from.old }
     requires to_room { 100 ≤ vec_capacity to.old }
-    ensures turns { Turns may_break result (contents_of bench.old) (contents_of bench.new) (view_text text.old) (view_text text.new) (view_edits from.old) (view_edits to.old) (view_edits from.new) (view_edits to.new) }
+    ensures turns { TurnsHeld may_break result bench.old bench.new text.old text.new from.old to.old from.new to.new }
     ensures few { vec_len from.new + vec_len to.new ≡ vec_len from.old + vec_len to.old }
     ensures room { vec_capacity from.new ≡ vec_capacity from.old }
     ensures to_room { vec_capacity to.new ≡ vec_capacity to.old }

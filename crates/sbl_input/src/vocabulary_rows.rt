@@ -130,16 +130,15 @@ fn write_row(
     ensures { (s : Source) → IsLinkedMachineOf machine.now s → OnOk result (Writes (row_fields (row_of (under s default_limit) word.now)) records.old.writer records.new.writer) }
 {
     // A vocabulary has fewer words than a meter counts, so the only error is a failed allocation.
-    let Ok(traced) = machine.trace(alloc, meter, word, DEFAULT_LIMIT) else {
+    let Ok(end) = machine.run_untraced(alloc, meter, word, DEFAULT_LIMIT) else {
         return Err(AllocError);
     };
-    meter.reuse(traced.touches);
     let row = Row {
         word,
-        outcome: &traced.outcome,
+        outcome: &end.outcome,
     };
     let written = records.push(&row);
-    meter.reuse_stem(traced.outcome);
+    meter.reuse_stem(end.outcome);
     written
 }
 

@@ -17,7 +17,7 @@ pub use item_ref::ItemRef;
 pub use limit::DEFAULT_LIMIT;
 pub use machine::Machine;
 pub use meter::Meter;
-pub use outcome::{Ran, RunTrace, Why};
+pub use outcome::{Ran, RunEnd, RunTrace, Why};
 pub use run_stop::RunStop;
 pub use sbl_program::{AmongSearch, LinkedTable, PlainTable};
 pub use sbl_run_state::TouchLog;

@@ -14,6 +14,7 @@ ghost use Rattle.sbl_program.specs.Start.{start};
 ghost use Rattle.sbl_semantics.specs.Outcome.{integers_at, integers_of, outcome_at, outcome_of, run_of, touched_at, touches_of, used_at, used_of, events_at, events_in, events_of};
 ghost use Rattle.sbl_semantics.specs.TouchedItems.{item_of, items_in, items_of, item_of_touch, names_of, same_item, touched_items};
 ghost use Rattle.sbl_machine.specs.ItemRefs.{items_of_refs};
+ghost use Rattle.sbl_machine.specs.inside.LastTouches.{touched_in};
 ghost use Rattle.sbl_ast.specs.Source.{Source};
 ghost use Rattle.sbl_script.specs.ParsedScript.{source_of};
 ghost use Rattle.sbl_semantics.specs.State.{Ending};
@@ -21,9 +22,9 @@ ghost use Rattle.sbl_semantics.specs.Events.{event_of, view_events};
 
 use crate::item_ref::ItemRef;
 use crate::marks::marks_of;
-use crate::meter::{Meter, SpareLists};
+use crate::meter::Meter;
 use crate::naming::{Names, is_touched, item_refs, items_touched, routine_at};
-use crate::outcome::{Ran, RunTrace, Why};
+use crate::outcome::{Ran, RunEnd, RunTrace, Why};
 use crate::run_stop::RunStop;
 use sbl_ast::Mode;
 use sbl_code::Code;
@@ -130,6 +131,29 @@ impl<S: AmongSearch> Machine<S> {
         Ok(traced)
     }
 
+    /// The same as `run`, but does not return what the run touched.
+    pub fn run_untraced(
+        &self,
+        alloc: Global,
+        meter: &mut Meter,
+        word: &[char],
+        limit: u32,
+    ) -> Result<RunEnd, RunStop>
+        requires { length word.now ≤ max_word_length }
+        ensures outcome { (script : Source) → IsMachineOf S S.entries S.mode self.now script → IfOk result (λ end. outcome_of end.outcome ≡ run_of script word.now limit) }
+        ensures used { (script : Source) → IsMachineOf S S.entries S.mode self.now script → IfOk result (λ end. end.used ≡ used_of script word.now limit) }
+        ensures counted { MatchResult result (λ _. meter.new ≡ meter.old + 1) (λ _. meter.new ≡ meter.old) }
+        ensures full { (result ≡ Err RunStop.MeterFull) ↔ (meter.old ≡ u64.MAX) }
+    {
+        if meter.is_full() {
+            return Err(RunStop::MeterFull);
+        }
+        let stem = meter.take_stem(alloc);
+        let end = self.run_in(alloc, &mut meter.state, stem, word, limit)?;
+        meter.count_run();
+        Ok(end)
+    }
+
     /// Runs the script on a word with at most `limit` steps, and returns the events of the run and the values of the integer
     /// variables at its end, too.
     ///
@@ -220,27 +244,35 @@ impl<S: AmongSearch> Machine<S> {
         if meter.is_full() {
             return Err(RunStop::MeterFull);
         }
-        let spare = meter.take_spare(alloc);
-        Ok(self.run_in(alloc, &mut meter.state, spare, word, limit)?)
+        let stem = meter.take_stem(alloc);
+        let RunEnd { outcome, used } = self.run_in(alloc, &mut meter.state, stem, word, limit)?;
+        let mut touches = meter.take_touches(alloc);
+        touches.clear();
+        touches.extend_from_slice(last_touches(&meter.state))?;
+        Ok(RunTrace {
+            outcome,
+            touches,
+            used,
+        })
     }
 
-    // Runs in the state of an earlier run, or in a new state, which it then keeps. The touches are put into `spare`.
+    // Runs in the state of an earlier run, or in a new state, which it then keeps. The stem is put into `stem`.
     fn run_in(
         &self,
         alloc: Global,
         kept: &mut Option<State>,
-        spare: SpareLists,
+        stem: Vec<char>,
         word: &[char],
         limit: u32,
-    ) -> Result<RunTrace, AllocError>
+    ) -> Result<RunEnd, AllocError>
         requires { length word.now ≤ max_word_length }
-        ensures outcome { (script : Source) → IsMachineOf S S.entries S.mode self.now script → IfOk result (λ traced. outcome_of traced.outcome ≡ run_of script word.now limit) }
-        ensures touches { (script : Source) → IsMachineOf S S.entries S.mode self.now script → IfOk result (λ traced. traced.touches.items ≡ touches_of script word.now limit) }
-        ensures used { (script : Source) → IsMachineOf S S.entries S.mode self.now script → IfOk result (λ traced. traced.used ≡ used_of script word.now limit) }
+        ensures outcome { (script : Source) → IsMachineOf S S.entries S.mode self.now script → IfOk result (λ end. outcome_of end.outcome ≡ run_of script word.now limit) }
+        ensures touches { (script : Source) → IsMachineOf S S.entries S.mode self.now script → IfOk result (λ _. touched_in kept.new ≡ touches_of script word.now limit) }
+        ensures used { (script : Source) → IsMachineOf S S.entries S.mode self.now script → IfOk result (λ end. end.used ≡ used_of script word.now limit) }
     {
         match kept {
-            Some(state) => self.ran(alloc, state, spare, word, limit),
-            None => self.run_first(alloc, kept, spare, word, limit),
+            Some(state) => self.ran(state, stem, word, limit),
+            None => self.run_first(alloc, kept, stem, word, limit),
         }
     }
 
@@ -251,19 +283,19 @@ impl<S: AmongSearch> Machine<S> {
         &self,
         alloc: Global,
         kept: &mut Option<State>,
-        spare: SpareLists,
+        stem: Vec<char>,
         word: &[char],
         limit: u32,
-    ) -> Result<RunTrace, AllocError>
+    ) -> Result<RunEnd, AllocError>
         requires { length word.now ≤ max_word_length }
-        ensures outcome { (script : Source) → IsMachineOf S S.entries S.mode self.now script → IfOk result (λ traced. outcome_of traced.outcome ≡ run_of script word.now limit) }
-        ensures touches { (script : Source) → IsMachineOf S S.entries S.mode self.now script → IfOk result (λ traced. traced.touches.items ≡ touches_of script word.now limit) }
-        ensures used { (script : Source) → IsMachineOf S S.entries S.mode self.now script → IfOk result (λ traced. traced.used ≡ used_of script word.now limit) }
+        ensures outcome { (script : Source) → IsMachineOf S S.entries S.mode self.now script → IfOk result (λ end. outcome_of end.outcome ≡ run_of script word.now limit) }
+        ensures touches { (script : Source) → IsMachineOf S S.entries S.mode self.now script → IfOk result (λ _. touched_in kept.new ≡ touches_of script word.now limit) }
+        ensures used { (script : Source) → IsMachineOf S S.entries S.mode self.now script → IfOk result (λ end. end.used ≡ used_of script word.now limit) }
     {
         let mut state = State::new(alloc);
-        let traced = self.ran(alloc, &mut state, spare, word, limit)?;
+        let end = self.ran(&mut state, stem, word, limit)?;
         *kept = Some(state);
-        Ok(traced)
+        Ok(end)
     }
 
     // Makes a run with its events, in this state.
@@ -283,13 +315,13 @@ impl<S: AmongSearch> Machine<S> {
         self.restart(state, word, limit)?;
         state.record_events();
         let end = self.call_external(state);
-        let traced = result_of_end(end, limit, state, SpareLists::new(alloc))?;
+        let ended = end_of(end, limit, state, Vec::new(alloc))?;
         let integers = state.integers(alloc)?;
         Ok(Why {
-            outcome: traced.outcome,
+            outcome: ended.outcome,
             events: events_or_none(alloc, state.take_events()),
             integers,
-            used: traced.used,
+            used: ended.used,
         })
     }
 
@@ -317,50 +349,42 @@ impl<S: AmongSearch> Machine<S> {
     // Makes the run.
     fn ran(
         &self,
-        alloc: Global,
         state: &mut State,
-        spare: SpareLists,
+        stem: Vec<char>,
         word: &[char],
         limit: u32,
-    ) -> Result<RunTrace, AllocError>
+    ) -> Result<RunEnd, AllocError>
         requires { length word.now ≤ max_word_length }
-        ensures outcome { (script : Source) → IsMachineOf S S.entries S.mode self.now script → IfOk result (λ traced. outcome_of traced.outcome ≡ run_of script word.now limit) }
-        ensures touches { (script : Source) → IsMachineOf S S.entries S.mode self.now script → IfOk result (λ traced. traced.touches.items ≡ touches_of script word.now limit) }
-        ensures used { (script : Source) → IsMachineOf S S.entries S.mode self.now script → IfOk result (λ traced. traced.used ≡ used_of script word.now limit) }
+        ensures outcome { (script : Source) → IsMachineOf S S.entries S.mode self.now script → IfOk result (λ end. outcome_of end.outcome ≡ run_of script word.now limit) }
+        ensures touches { (script : Source) → IsMachineOf S S.entries S.mode self.now script → IfOk result (λ _. state.new.touched ≡ touches_of script word.now limit) }
+        ensures used { (script : Source) → IsMachineOf S S.entries S.mode self.now script → IfOk result (λ end. end.used ≡ used_of script word.now limit) }
     {
         self.restart(state, word, limit)?;
         let end = self.call_external(state);
-        result_of_end(end, limit, state, spare)
+        end_of(end, limit, state, stem)
     }
 }
 
-/// Returns the result of a run that ended in this way, with its lists in place of those in `spare`. Returns `AllocError` if
-/// it ended because an allocation failed, or if one fails.
-fn result_of_end(
+/// Returns how a run ended, with its stem in place of `stem`. Returns `AllocError` if it ended because an allocation failed,
+/// or if one fails.
+fn end_of(
     end: Result<bool, Halt>,
     limit: u32,
     state: &State,
-    spare: SpareLists,
-) -> Result<RunTrace, AllocError>
-    ensures outcome { (e : Ending) → Follows end state.now e → IfOk result (λ traced. outcome_of traced.outcome ≡ outcome_at e) }
-    ensures touches { (e : Ending) → Follows end state.now e → IfOk result (λ traced. traced.touches.items ≡ touched_at e) }
-    ensures used { (e : Ending) → Follows end state.now e → IfOk result (λ traced. traced.used ≡ used_at limit e) }
+    mut stem: Vec<char>,
+) -> Result<RunEnd, AllocError>
+    ensures outcome { (e : Ending) → Follows end state.now e → IfOk result (λ ended. outcome_of ended.outcome ≡ outcome_at e) }
+    ensures touches { (e : Ending) → Follows end state.now e → IfOk result (λ _. state.now.touched ≡ touched_at e) }
+    ensures used { (e : Ending) → Follows end state.now e → IfOk result (λ ended. ended.used ≡ used_at limit e) }
     ensures events { (e : Ending) → Follows end state.now e → IfOk result (λ _. events_in state.now.events ≡ events_at e) }
     ensures integers { (e : Ending) → Follows end state.now e → IfOk result (λ _. state.now.integers ≡ integers_at e) }
 {
     let paid = u64::from(limit.saturating_sub(state.steps()));
-    let SpareLists {
-        mut touches,
-        mut stem,
-    } = spare;
-    touches.clear();
-    touches.extend_from_slice(state.touches())?;
     match end {
         Err(halt) => match halt.fault() {
             None => Err(AllocError),
-            Some(fault) => Ok(RunTrace {
+            Some(fault) => Ok(RunEnd {
                 outcome: Outcome::Refused(fault),
-                touches,
                 used: if fault == RunFault::Steps {
                     u64::from(limit) + 1
                 } else {
@@ -371,12 +395,21 @@ fn result_of_end(
         Ok(_) => {
             stem.clear();
             stem.extend_from_slice(state.text())?;
-            Ok(RunTrace {
+            Ok(RunEnd {
                 outcome: Outcome::Stem(stem),
-                touches,
                 used: paid,
             })
         }
+    }
+}
+
+/// Returns what the last run touched, or nothing if there was no run.
+fn last_touches(kept: &Option<State>) -> &[Touch]
+    ensures { result.now ≡ touched_in kept.now }
+{
+    match kept {
+        Some(state) => state.touches(),
+        None => &[],
     }
 }
 

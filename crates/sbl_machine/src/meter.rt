@@ -19,25 +19,6 @@ pub struct Meter {
     stem: Option<Vec<char>>,
 }
 
-/// What the results of a run are put into.
-#[derive(Drop)]
-pub(crate) struct SpareLists {
-    /// A list of touches.
-    pub(crate) touches: Vec<Touch>,
-    /// A stem.
-    pub(crate) stem: Vec<char>,
-}
-
-impl SpareLists {
-    /// Returns empty lists. Does not allocate.
-    pub(crate) fn new(alloc: Global) -> SpareLists {
-        SpareLists {
-            touches: Vec::new(alloc),
-            stem: Vec::new(alloc),
-        }
-    }
-}
-
 impl Model for Meter {
     ghost use Rattle.std.specs.Prelude.{ℕ};
 
@@ -90,14 +71,18 @@ impl Meter {
         }
     }
 
-    /// Returns the lists that were given back, or new ones.
-    pub(crate) fn take_spare(&mut self, alloc: Global) -> SpareLists
+    /// Returns the list of touches that was given back, or a new one.
+    pub(crate) fn take_touches(&mut self, alloc: Global) -> Vec<Touch>
         ensures { self.new ≡ self.old }
     {
-        SpareLists {
-            touches: list_or_new(alloc, self.touches.take()),
-            stem: list_or_new(alloc, self.stem.take()),
-        }
+        list_or_new(alloc, self.touches.take())
+    }
+
+    /// Returns the stem that was given back, or a new one.
+    pub(crate) fn take_stem(&mut self, alloc: Global) -> Vec<char>
+        ensures { self.new ≡ self.old }
+    {
+        list_or_new(alloc, self.stem.take())
     }
 
     /// Adds one to the count.

@@ -14,6 +14,15 @@ pub struct Ran {
     pub used: u64,
 }
 
+/// The outcome of a run and the steps that it used.
+#[derive(Debug, Drop, PartialEq, Eq)]
+pub struct RunEnd {
+    /// The stem, or why there is none.
+    pub outcome: Outcome,
+    /// The number of steps used; `limit` + 1 if the run was refused for its steps.
+    pub used: u64,
+}
+
 /// The same as `Ran`, with numbers instead of names.
 #[derive(Debug, Drop, PartialEq, Eq)]
 pub struct RunTrace {

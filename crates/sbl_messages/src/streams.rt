@@ -120,23 +120,11 @@ impl<W> Output<W> {
     }
 }
 
-/// So many bytes are counted in a byte.
-const FEW: usize = 240;
-
 /// Returns the number of line feeds.
 fn feed_count(bytes: &[u8]) -> u64 {
     let mut count: u64 = 0;
-    for part in bytes.chunks(FEW) {
-        count = count.wrapping_add(u64::from(feeds_of_few(part)));
-    }
-    count
-}
-
-/// Returns the number of line feeds of at most 255 bytes. Counts in bytes, so that many are counted at once.
-fn feeds_of_few(bytes: &[u8]) -> u8 {
-    let mut count: u8 = 0;
     for byte in bytes {
-        count = count.wrapping_add(u8::from(*byte == b'\n'));
+        count = count.wrapping_add(u64::from(*byte == b'\n'));
     }
     count
 }

@@ -1,18 +1,24 @@
--- Work without a file of `--stop`.
-use Rattle.std.proofs.Common.{◌≡◌, ◌⊎◌, ◌∙◌, inl, inr, ℕ, Bool, true, false, List, [], ◌∷◌, Option, Some, None, Result, Ok, Err, refl, ap, subst, length, nat_lt}
+-- No edit is broken off unless `--stop` names a file.
+use Rattle.std.proofs.Common.{◌≡◌, ◌⊎◌, ◌∙◌, ◌++◌, inl, inr, ℕ, Bool, true, false, List, [], ◌∷◌, Option, Some, None, Result, Ok, Err, refl, ap, subst, length, nat_lt}
+use Rattle.std.specs.Option.{is_some}
 use Rattle.std.specs.Str.{is_utf8}
 use Rattle.sbl_bench.specs.Contents.{Contents, rows_now}
+use Rattle.sbl_bench.specs.Edits as bench
 use Rattle.sbl_bench.specs.Edits.{Edit, Edits, Replace, Whole}
 use Rattle.sbl_bench.specs.declared.fault.EditFault.{EditFault}
 use Rattle.sbl_bench.specs.declared.fault.EditFault.TheVariants as edit
-use Rattle.sbl_history.specs.Desks.{Redoes, State, Undoes, text_in}
+use Rattle.sbl_history.specs.Desks.{Redoes, State, Turns, Undoes, first_desk, text_in}
 use Rattle.sbl_history.specs.Editing.{IsLimitNoted, Replaces, ReplacesPart}
-use Rattle.sbl_history.specs.History.{EditKind, OfPart, OfScript}
+use Rattle.sbl_history.specs.History.{EditKind, OfPart, OfScript, PastEdit, edit_of}
 use Rattle.sbl_history.specs.MayBreak.{EditsOrBreaksIf}
 use Rattle.sbl_history.specs.Refused.{RefusedText}
 use Rattle.sbl_history.specs.ChangeReports.{change_figures_text, first_changes_text}
 use Rattle.sbl_history.specs.Listing.{history_text}
 use Rattle.sbl_history.specs.declared.history.HistoryFault.{HistoryFault}
+use Rattle.sbl_history.specs.declared.history.HistoryFault.TheVariants as turn
+use Rattle.sbl_input.specs.FileWords.{file_words}
+use Rattle.sbl_input.specs.declared.faults.LoadFault.TheVariants as load
+use Rattle.sbl_io.specs.declared.faults.ServeFault.TheVariants as serve
 use Rattle.sbl_script.specs.Edits.{ScriptEdit}
 use Rattle.sbl_explain.specs.Counts.{counts_text}
 use Rattle.sbl_explain.specs.Unused.{unused_text}
@@ -24,17 +30,18 @@ use Rattle.sbl_rows.specs.Rows.{Row}
 use Rattle.sbl_rows.specs.StemRows.{rows_with}
 use Rattle.sbl_sessions.specs.Answers.{edit_text, with_line_feed}
 use Rattle.sbl_sessions.specs.Commands.{Command}
+use Rattle.sbl_sessions.specs.EditFaults.{fault_in}
 use Rattle.sbl_source_map.specs.Definitions.{definition_text}
 use Rattle.sbl_text_rows.specs.PlaceRows.{IsPlacesText}
 use Rattle.sbl_text_rows.specs.TokenRows.{IsTokensText}
 use Rattle.sbl_text.specs.declared.fault.ScriptFault.{ScriptFault}
-use Rattle.sbl_work.specs.BreakLaws.{RequestsKeepLeave, SessionCommandsEnd, WholeScriptsEnd}
+use Rattle.sbl_work.specs.BreakLaws.{IsLastEdited, MayBreakStays, PartsAreEdited, RedoingIsEditing, SessionsReply, UndoingIsEditing, WholeScriptsAreEdited, WordsAreEdited, WorkBeginsUnbroken}
 use Rattle.sbl_work.specs.Commands as command
 use Rattle.sbl_work.specs.Commands.{WorkCommand, by_work_block}
 use Rattle.sbl_work.specs.FaultReplies.{IsFaultsText, IsRefusedText, kept_after, kept_after_turn, refused_part, refused_whole}
 use Rattle.sbl_work.specs.Replies.{IsDefinitionReply, IsFaultsReply, IsLargestReply, IsMarkReply, IsPartReply, IsSessionReply, IsTurnReply, IsWholeReply, IsWordsReply, IsWorkReply}
 use Rattle.sbl_work.specs.Replies.{SetsMark, TellsFaults, TellsMemory, TellsReport, TellsRows, TellsTokens, approve_text, families_reply_text, integers_reply_text, mark_refusal, not_text_text}
-use Rattle.sbl_work.specs.Replies.{redo_text, stem_reply_text, undo_text, uses_reply_text, why_reply_text}
+use Rattle.sbl_work.specs.Replies.{redo_text, stem_reply_text, turn_text, undo_text, uses_reply_text, why_reply_text}
 
 -- whether edits may be broken off is as before
 abbrev Keeps : State → State → Type 0
@@ -178,27 +185,66 @@ reply_keeps command.Hello s d text t e (shown, bench, desk) = same d e desk
 
 -- ---- the laws
 
-pub keeps_leave : RequestsKeepLeave
-keeps_leave [] s d [] [] t e (bench, desk) = same d e desk
-keeps_leave [] s d [] (reply ∷ replies) t e none = elim none [ ]
-keeps_leave [] s d (request ∷ requests) replies t e none = elim none [ ]
-keeps_leave (choice ∷ choices) s d [] replies t e none = elim none [ ]
-keeps_leave (choice ∷ choices) s d (request ∷ requests) [] t e none = elim none [ ]
-keeps_leave (choice ∷ choices) s d (request ∷ requests) (reply ∷ replies) t e (next, is, rest) =
-    keeps_leave choices next choice.desk requests replies t e rest
+pub may_break_stays : MayBreakStays
+may_break_stays [] s d [] [] t e (bench, desk) = same d e desk
+may_break_stays [] s d [] (reply ∷ replies) t e none = elim none [ ]
+may_break_stays [] s d (request ∷ requests) replies t e none = elim none [ ]
+may_break_stays (choice ∷ choices) s d [] replies t e none = elim none [ ]
+may_break_stays (choice ∷ choices) s d (request ∷ requests) [] t e none = elim none [ ]
+may_break_stays (choice ∷ choices) s d (request ∷ requests) (reply ∷ replies) t e (next, is, rest) =
+    may_break_stays choices next choice.desk requests replies t e rest
     ∙ reply_keeps (by_work_block choice.file request.line request.block) s d reply next choice.desk is
 
-edits_end : (m : Bool) (result : Result (Unit {0}) EditFault) (what : Edit) (s t : Contents) → m ≡ false → EditsOrBreaksIf m result s what t → Edits result s what t
-edits_end m (Ok u) what s t is edits = edits
-edits_end m (Err f) what s t is edits = subst (λ (x : Bool). EditsOrBreaksIf x (Err f) s what t) is edits
+edits_if_not : (m : Bool) (f : EditFault) (what : Edit) (s t : Contents) → m ≡ false → EditsOrBreaksIf m (Err f) s what t → Edits (Err f) s what t
+edits_if_not m f what s t is edits = subst (λ (x : Bool). EditsOrBreaksIf x (Err f) s what t) is edits
 
-replacing_ends : (result : Result (Unit {0}) EditFault) (kind : EditKind) (what : Edit) (after : Option (List ℕ)) (s : Contents) (d : State) (t : Contents) (m : State) → d.may_break ≡ false
+replacing_edits : (result : Result (Unit {0}) EditFault) (kind : EditKind) (what : Edit) (after : Option (List ℕ)) (s : Contents) (d : State) (t : Contents) (m : State) → d.may_break ≡ false
     → Replaces result kind what after s d t m → Edits result s what t
-replacing_ends (Ok u) kind what after s d t m is (edits, noted) = edits
-replacing_ends (Err f) kind what after s d t m is (edits, desk) = edits_end d.may_break (Err f) what s t is edits
+replacing_edits (Ok u) kind what after s d t m is (edits, noted) = edits
+replacing_edits (Err f) kind what after s d t m is (edits, desk) = edits_if_not d.may_break f what s t is edits
 
-pub whole_scripts_end : WholeScriptsEnd
-whole_scripts_end bytes s d text t e is (result, (m, replaces, desk), shown) = (result, replacing_ends result OfScript (Whole bytes) (Some bytes) s d t m is replaces, shown)
+pub whole_scripts_are_edited : WholeScriptsAreEdited
+whole_scripts_are_edited bytes s d text t e is (result, (m, replaces, desk), shown) = (result, replacing_edits result OfScript (Whole bytes) (Some bytes) s d t m is replaces, shown)
 
-pub session_commands_end : SessionCommandsEnd
-session_commands_end k s d text t e is (reply, noted) = subst (λ (m : Bool). IsSessionReply m k s text t) is reply
+pub parts_are_edited : PartsAreEdited
+parts_are_edited what block s d text t e is (inl (rest, result, m, head, inl (kept, of, replaces), desk, shown)) =
+    inl (rest, result, head, replacing_edits result (OfPart what) (Replace what rest) kept s d t m is replaces, shown)
+parts_are_edited what block s d text t e is (inl (rest, result, m, head, inr (memory, bench, kept), desk, shown)) =
+    inr (shown ∙ ap (λ (r : Result (Unit {0}) EditFault). edit_text (fault_in r)) memory, bench)
+parts_are_edited what block s d text t e is (inr (shown, bench, desk)) = inr (shown, bench)
+
+last_edited : (b : Bool) (result : Result (Unit {0}) HistoryFault) (nothing text : List ℕ) (s t : Contents) (kept new : Option (List ℕ)) (from to new_from new_to : List PastEdit)
+    → b ≡ false → Turns b result s t kept new from to new_from new_to → text ≡ turn_text nothing result → IsLastEdited nothing from s text t
+last_edited b (Ok u) nothing text s t kept new from to new_from new_to is (last, was, edits, rest) shown = inr (new_from, last, Ok u, was, edits, shown)
+last_edited b (Err turn.Nothing) nothing text s t kept new from to new_from new_to is (none, bench, rest) shown = inl (none, bench, shown)
+last_edited b (Err (turn.Edit f)) nothing text s t kept new from to new_from new_to is (before, last, was, edits, rest) shown =
+    inr (before, last, Err f, was, edits_if_not b f (edit_of last.turn) s t is edits, shown)
+
+pub undoing_is_editing : UndoingIsEditing
+undoing_is_editing s d text t e is (result, m, (turns, rest), desk, shown) =
+    last_edited d.may_break result _ text s t d.text m.text d.past.earlier d.past.later m.past.earlier m.past.later is turns shown
+
+pub redoing_is_editing : RedoingIsEditing
+redoing_is_editing s d text t e is (result, m, (turns, rest), desk, shown) =
+    last_edited d.may_break result _ text s t d.text m.text d.past.later d.past.earlier m.past.later m.past.earlier is turns shown
+
+pub words_are_edited : WordsAreEdited
+words_are_edited bytes s d text t e is (Ok u, (no_fault, edits), shown, desk) = inl (Ok u, edits, shown)
+words_are_edited bytes s d text t e is (Err (load.Open f), (no_fault, edits), shown, desk) =
+    inl (Err f, edits_if_not d.may_break f (bench.Words (file_words bytes)) s t is edits, shown)
+words_are_edited bytes s d text t e is (Err (load.Input serve.OutOfMemory), bench, shown, desk) = inr (serve.OutOfMemory, shown, bench)
+words_are_edited bytes s d text t e is (Err (load.Input serve.Read), (fault, bench), shown, desk) = inr (serve.Read, shown, bench)
+words_are_edited bytes s d text t e is (Err (load.Input serve.Write), (fault, bench), shown, desk) = inr (serve.Write, shown, bench)
+words_are_edited bytes s d text t e is (Err (load.Input serve.Cut), (fault, bench), shown, desk) = inr (serve.Cut, shown, bench)
+words_are_edited bytes s d text t e is (Err (load.Input serve.NotText), (fault, bench), shown, desk) = inr (serve.NotText, shown, bench)
+words_are_edited bytes s d text t e is (Err (load.Input serve.LineTooLong), (fault, bench), shown, desk) = inr (serve.LineTooLong, shown, bench)
+words_are_edited bytes s d text t e is (Err (load.Script f), none, shown, desk) = elim none [ ]
+
+pub sessions_reply : SessionsReply
+sessions_reply k s d text t e is (reply, noted) = subst (λ (m : Bool). IsSessionReply m k s text t) is reply
+
+pub work_begins_unbroken : WorkBeginsUnbroken
+work_begins_unbroken left held reads writes paths prompt lines new_lines writer new_writer status none (inl (ends, rest)) = inl ends
+work_begins_unbroken left held reads writes paths prompt lines new_lines writer new_writer status none
+    (inr (bytes, s, served, opened, (t, e, works, reasons), status_is)) =
+    inr (s, first_desk (is_some paths.stop) s bytes, t, e, served, works, ap (λ (o : Option (List ℕ)). is_some o) none)

@@ -1,10 +1,16 @@
-//! Laws of work without a file of `--stop`.
-ghost use Rattle.sbl_work.specs.BreakLaws.{RequestsKeepLeave, SessionCommandsEnd, WholeScriptsEnd};
+//! The law that no edit is broken off unless `--stop` names a file.
 
-/// If edits may not be broken off at the start, none is: after each request they still may not be, and a whole script and a limit are
-/// edits of the bench.
-pub fn without_leave_nothing_breaks()
-    ensures keeps { RequestsKeepLeave }
-    ensures whole { WholeScriptsEnd }
-    ensures session { SessionCommandsEnd }
+ghost use Rattle.sbl_work.specs.BreakLaws.{MayBreakStays, PartsAreEdited, RedoingIsEditing, SessionsReply, UndoingIsEditing, WholeScriptsAreEdited, WordsAreEdited, WorkBeginsUnbroken};
+
+/// If `--stop` names no file, edits may not be broken off at the start, no request changes that, and each edit has the reply of an edit of
+/// the bench.
+pub fn nothing_breaks_without_stop()
+    ensures stays { MayBreakStays }
+    ensures whole { WholeScriptsAreEdited }
+    ensures part { PartsAreEdited }
+    ensures undo { UndoingIsEditing }
+    ensures redo { RedoingIsEditing }
+    ensures words { WordsAreEdited }
+    ensures session { SessionsReply }
+    ensures start { WorkBeginsUnbroken }
 {}

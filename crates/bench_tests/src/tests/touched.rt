@@ -23,8 +23,8 @@ fn are_items<S: AmongSearch>(
     Ok(is_same && items.is_empty() && !has_other)
 }
 
-/// Runs a machine over a word twice. Returns the items in order, and the steps; and whether both runs are the same, and the numbers of
-/// what is touched say the same as the names.
+/// Runs a machine over a word three times. Returns the items in order, and the steps; and whether all runs are the same, and the numbers
+/// of what is touched say the same as the names.
 pub(crate) fn touches<S: AmongSearch>(
     alloc: Global,
     machine: &Machine<S>,
@@ -36,11 +36,16 @@ pub(crate) fn touches<S: AmongSearch>(
 {
     let ran = machine.run(alloc, meter, word, limit)?;
     let traced = machine.trace(alloc, meter, word, limit)?;
-    let is_same = traced.outcome == ran.outcome && traced.used == ran.used;
+    let end = machine.run_untraced(alloc, meter, word, limit)?;
+    let is_traced = traced.outcome == ran.outcome && traced.used == ran.used;
+    let is_untraced = end.outcome == ran.outcome && end.used == ran.used;
     let (touched, used) = (&ran.touched, ran.used);
     let text = format!(in alloc; "{touched:?}|{used};")?;
     let agree = are_items(alloc, machine, &traced.touches, ran.touched)?;
-    Ok((text, is_same && agree && meter.count() == 2))
+    Ok((
+        text,
+        is_traced && is_untraced && agree && meter.count() == 3,
+    ))
 }
 
 /// A word, the limit of steps, the items that its run touches, and the steps that it uses. A condition that signals f is entered, and a

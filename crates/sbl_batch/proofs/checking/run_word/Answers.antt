@@ -18,17 +18,17 @@ pub returns-in-Stem : goal.returns-in-Stem
 returns-in-Stem c = λ script made.
     let items : c.in_ok-characters.characters.items ≡ chars c.args.word.now = search (rules, chars_from_encodes) in
     let fits : length c.in_ok-characters.characters.items ≤ 255 = search rules in
-    let is : c.in-Ok.traced.outcome ≡ code.Stem c.in-Stem.stem = search rules in
+    let is : c.in-Ok.end.outcome ≡ code.Stem c.in-Stem.stem = search rules in
     let ran = c.in-Ok.ensures.outcome script made ∙ ap (λ (w : List ℕ). run_of script w default_limit) (c.as_slice.ensures.value ∙ items) in
     let same : c.deref.result.now ≡ c.in-Stem.stem.items = search rules in
     ap Stem (c.in_ok-text_of-in-Stem.ensures ∙ ap encode_utf8_all same) ∙ ap (λ o. of_outcome (outcome_of o)) (sym is)
-    ∙ made_by_run script (chars c.args.word.now) (outcome_of c.in-Ok.traced.outcome) (subst (λ (w : List ℕ). length w ≤ 255) items fits) ran
+    ∙ made_by_run script (chars c.args.word.now) (outcome_of c.in-Ok.end.outcome) (subst (λ (w : List ℕ). length w ≤ 255) items fits) ran
 
 pub returns : goal.returns
 returns c = λ script made.
     let items : c.in_ok-characters.characters.items ≡ chars c.args.word.now = search (rules, chars_from_encodes) in
     let fits : length c.in_ok-characters.characters.items ≤ 255 = search rules in
-    let is : c.in-Ok.traced.outcome ≡ code.Refused c.in-Refused.fault = search rules in
+    let is : c.in-Ok.end.outcome ≡ code.Refused c.in-Refused.fault = search rules in
     let ran = c.in-Ok.ensures.outcome script made ∙ ap (λ (w : List ℕ). run_of script w default_limit) (c.as_slice.ensures.value ∙ items) in
     ap Refused c.name.ensures ∙ ap (λ o. of_outcome (outcome_of o)) (sym is)
-    ∙ made_by_run script (chars c.args.word.now) (outcome_of c.in-Ok.traced.outcome) (subst (λ (w : List ℕ). length w ≤ 255) items fits) ran
+    ∙ made_by_run script (chars c.args.word.now) (outcome_of c.in-Ok.end.outcome) (subst (λ (w : List ℕ). length w ≤ 255) items fits) ran

@@ -15,7 +15,7 @@ returns-clause-outcome g c script h =
     let m = c.args.self.now in
     let T = listed_in _ g.S.AmongSearch.entries g.S.AmongSearch.mode m in
     let does = calls (machine_plan _ g.S.AmongSearch.entries g.S.AmongSearch.mode m) 32 m.code.external Forward in
-    same_outcome c.result_of_end.result (does c.restart.new.state) _ (c.result_of_end.ensures.outcome (does c.restart.new.state) c.call_external-end.ensures) (ap does (c.in_ok-restart.ensures T) ∙ ap (λ (p : Program). ending_of p c.args.word.now c.args.limit) h.0 ∙ ending_same script c.args.word.now c.args.limit)
+    same_outcome c.end_of.result (does c.restart.new.state) _ (c.end_of.ensures.outcome (does c.restart.new.state) c.call_external-end.ensures) (ap does (c.in_ok-restart.ensures T) ∙ ap (λ (p : Program). ending_of p c.args.word.now c.args.limit) h.0 ∙ ending_same script c.args.word.now c.args.limit)
 
 pub returns-clause-touches : goal.returns-clause-touches
 unfolding IsMachineOf touches_of
@@ -23,7 +23,7 @@ returns-clause-touches g c script h =
     let m = c.args.self.now in
     let T = listed_in _ g.S.AmongSearch.entries g.S.AmongSearch.mode m in
     let does = calls (machine_plan _ g.S.AmongSearch.entries g.S.AmongSearch.mode m) 32 m.code.external Forward in
-    same_touches c.result_of_end.result (does c.restart.new.state) _ (c.result_of_end.ensures.touches (does c.restart.new.state) c.call_external-end.ensures) (ap does (c.in_ok-restart.ensures T) ∙ ap (λ (p : Program). ending_of p c.args.word.now c.args.limit) h.0 ∙ ending_same script c.args.word.now c.args.limit)
+    same_touches c.end_of.result c.call_external-end.new.state.touched (does c.restart.new.state) _ (c.end_of.ensures.touches (does c.restart.new.state) c.call_external-end.ensures) (ap does (c.in_ok-restart.ensures T) ∙ ap (λ (p : Program). ending_of p c.args.word.now c.args.limit) h.0 ∙ ending_same script c.args.word.now c.args.limit)
 
 pub returns-clause-used : goal.returns-clause-used
 unfolding IsMachineOf used_of
@@ -31,4 +31,4 @@ returns-clause-used g c script h =
     let m = c.args.self.now in
     let T = listed_in _ g.S.AmongSearch.entries g.S.AmongSearch.mode m in
     let does = calls (machine_plan _ g.S.AmongSearch.entries g.S.AmongSearch.mode m) 32 m.code.external Forward in
-    same_used c.result_of_end.result c.args.limit (does c.restart.new.state) _ (c.result_of_end.ensures.used (does c.restart.new.state) c.call_external-end.ensures) (ap does (c.in_ok-restart.ensures T) ∙ ap (λ (p : Program). ending_of p c.args.word.now c.args.limit) h.0 ∙ ending_same script c.args.word.now c.args.limit)
+    same_used c.end_of.result c.args.limit (does c.restart.new.state) _ (c.end_of.ensures.used (does c.restart.new.state) c.call_external-end.ensures) (ap does (c.in_ok-restart.ensures T) ∙ ap (λ (p : Program). ending_of p c.args.word.now c.args.limit) h.0 ∙ ending_same script c.args.word.now c.args.limit)

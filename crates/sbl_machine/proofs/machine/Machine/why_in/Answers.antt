@@ -20,7 +20,7 @@ returns-clause-outcome g c script h =
     let same : does begun ≡ ending_with_events script c.args.word.now c.args.limit =
     ap does (c.record_events.ensures ∙ ap (λ (s : State). record s { events = Some [] }) (c.in_ok-restart.ensures T))
     ∙ ap (λ (p : Program). telling_of p c.args.word.now c.args.limit) h.0 ∙ telling_same script c.args.word.now c.args.limit in
-    c.in_ok-traced.ensures.outcome (does begun) c.call_external-end.ensures ∙ ap outcome_at same ∙ (events_change_nothing script c.args.word.now c.args.limit).outcome
+    c.in_ok-ended.ensures.outcome (does begun) c.call_external-end.ensures ∙ ap outcome_at same ∙ (events_change_nothing script c.args.word.now c.args.limit).outcome
 
 pub returns-clause-events : goal.returns-clause-events
 unfolding IsMachineOf events_of
@@ -32,7 +32,7 @@ returns-clause-events g c script h =
     let same : does begun ≡ ending_with_events script c.args.word.now c.args.limit =
     ap does (c.record_events.ensures ∙ ap (λ (s : State). record s { events = Some [] }) (c.in_ok-restart.ensures T))
     ∙ ap (λ (p : Program). telling_of p c.args.word.now c.args.limit) h.0 ∙ telling_same script c.args.word.now c.args.limit in
-    c.events_or_none.ensures ∙ ap events_in c.take_events.ensures.events ∙ c.in_ok-traced.ensures.events (does begun) c.call_external-end.ensures ∙ ap events_at same
+    c.events_or_none.ensures ∙ ap events_in c.take_events.ensures.events ∙ c.in_ok-ended.ensures.events (does begun) c.call_external-end.ensures ∙ ap events_at same
 
 pub returns-clause-used : goal.returns-clause-used
 unfolding IsMachineOf
@@ -44,7 +44,7 @@ returns-clause-used g c script h =
     let same : does begun ≡ ending_with_events script c.args.word.now c.args.limit =
     ap does (c.record_events.ensures ∙ ap (λ (s : State). record s { events = Some [] }) (c.in_ok-restart.ensures T))
     ∙ ap (λ (p : Program). telling_of p c.args.word.now c.args.limit) h.0 ∙ telling_same script c.args.word.now c.args.limit in
-    c.in_ok-traced.ensures.used (does begun) c.call_external-end.ensures ∙ ap (used_at c.args.limit) same ∙ (events_change_nothing script c.args.word.now c.args.limit).used
+    c.in_ok-ended.ensures.used (does begun) c.call_external-end.ensures ∙ ap (used_at c.args.limit) same ∙ (events_change_nothing script c.args.word.now c.args.limit).used
 
 pub returns-clause-integers : goal.returns-clause-integers
 unfolding IsMachineOf
@@ -56,4 +56,4 @@ returns-clause-integers g c script h =
     let same : does begun ≡ ending_with_events script c.args.word.now c.args.limit =
     ap does (c.record_events.ensures ∙ ap (λ (s : State). record s { events = Some [] }) (c.in_ok-restart.ensures T))
     ∙ ap (λ (p : Program). telling_of p c.args.word.now c.args.limit) h.0 ∙ telling_same script c.args.word.now c.args.limit in
-    c.in_ok-integers.ensures ∙ c.in_ok-traced.ensures.integers (does begun) c.call_external-end.ensures ∙ ap integers_at same ∙ (events_change_nothing script c.args.word.now c.args.limit).integers
+    c.in_ok-integers.ensures ∙ c.in_ok-ended.ensures.integers (does begun) c.call_external-end.ensures ∙ ap integers_at same ∙ (events_change_nothing script c.args.word.now c.args.limit).integers
