@@ -215,9 +215,9 @@ parts_are_edited what block s d text t e is (inr (shown, bench, desk)) = inr (sh
 
 last_edited : (b : Bool) (result : Result (Unit {0}) HistoryFault) (nothing text : List ℕ) (s t : Contents) (kept new : Option (List ℕ)) (from to new_from new_to : List PastEdit)
     → b ≡ false → Turns b result s t kept new from to new_from new_to → text ≡ turn_text nothing result → IsLastEdited nothing from s text t
-last_edited b (Ok u) nothing text s t kept new from to new_from new_to is (last, was, edits, rest) shown = inr (new_from, last, Ok u, was, edits, shown)
-last_edited b (Err turn.Nothing) nothing text s t kept new from to new_from new_to is (none, bench, rest) shown = inl (none, bench, shown)
-last_edited b (Err (turn.Edit f)) nothing text s t kept new from to new_from new_to is (before, last, was, edits, rest) shown =
+last_edited b (Ok u) nothing text s t kept new from to new_from new_to is (last, was, edits, moved, kept_is) shown = inr (new_from, last, Ok u, was, edits, shown)
+last_edited b (Err turn.Nothing) nothing text s t kept new from to new_from new_to is (none, bench, kept_is, from_is, to_is) shown = inl (none, bench, shown)
+last_edited b (Err (turn.Edit f)) nothing text s t kept new from to new_from new_to is (before, last, was, edits, kept_is, from_is, to_is) shown =
     inr (before, last, Err f, was, edits_if_not b f (edit_of last.turn) s t is edits, shown)
 
 pub undoing_is_editing : UndoingIsEditing
@@ -236,6 +236,7 @@ words_are_edited bytes s d text t e is (Err (load.Input serve.OutOfMemory), benc
 words_are_edited bytes s d text t e is (Err (load.Input serve.Read), (fault, bench), shown, desk) = inr (serve.Read, shown, bench)
 words_are_edited bytes s d text t e is (Err (load.Input serve.Write), (fault, bench), shown, desk) = inr (serve.Write, shown, bench)
 words_are_edited bytes s d text t e is (Err (load.Input serve.Cut), (fault, bench), shown, desk) = inr (serve.Cut, shown, bench)
+words_are_edited bytes s d text t e is (Err (load.Input serve.LengthsDiffer), (fault, bench), shown, desk) = inr (serve.LengthsDiffer, shown, bench)
 words_are_edited bytes s d text t e is (Err (load.Input serve.NotText), (fault, bench), shown, desk) = inr (serve.NotText, shown, bench)
 words_are_edited bytes s d text t e is (Err (load.Input serve.LineTooLong), (fault, bench), shown, desk) = inr (serve.LineTooLong, shown, bench)
 words_are_edited bytes s d text t e is (Err (load.Script f), none, shown, desk) = elim none [ ]
@@ -247,4 +248,4 @@ pub work_begins_unbroken : WorkBeginsUnbroken
 work_begins_unbroken left held reads writes paths prompt lines new_lines writer new_writer status none (inl (ends, rest)) = inl ends
 work_begins_unbroken left held reads writes paths prompt lines new_lines writer new_writer status none
     (inr (bytes, s, served, opened, (t, e, works, reasons), status_is)) =
-    inr (s, first_desk (is_some paths.stop) s bytes, t, e, served, works, ap (λ (o : Option (List ℕ)). is_some o) none)
+    inr (s, first_desk (is_some paths.stop) s bytes, t, e, served, works, ap is_some none)
