@@ -1,8 +1,8 @@
 //! The edits that can be undone and redone.
 ghost use Rattle.std.specs.Prelude.{◌≡◌, ◌≤◌, ◌<◌, ◌+◌, ◌-◌, ◌++◌, ◌∷◌, [], Some, drop, length, map, IfErr, IfOk, OnOk, OnErr, vec_len, vec_capacity};
 ghost use Rattle.sbl_bench.specs.BreakingOff.{BreaksIfTold};
-ghost use Rattle.sbl_bench.specs.KeptRuns.{contents_of};
-ghost use Rattle.sbl_history.specs.Desks.{TurnBreaksIfTold, Turns, back, past_of, text_after, text_in, view_edit, view_edits, view_step, view_text};
+ghost use Rattle.sbl_bench.specs.KeptRuns.{contents_of as contents};
+ghost use Rattle.sbl_history.specs.Desks.{TurnBreaksIfTold, Turns, back, past_of, text_after, text_in, view_edit, view_edits as edits_in, view_step as turn_of, view_text};
 ghost use Rattle.sbl_history.specs.MayBreak.{EditsOrBreaksIf};
 ghost use Rattle.sbl_history.specs.History.{ToLimit, ToText, edit_of, latest, remember_edit};
 
@@ -86,7 +86,7 @@ pub(crate) fn turn<B: BreakOff>(
     requires few { vec_len from.old + vec_len to.old ≤ 100 }
     requires room { 100 ≤ vec_capacity from.old }
     requires to_room { 100 ≤ vec_capacity to.old }
-    ensures turns { Turns may_break result (contents_of bench.old) (contents_of bench.new) (view_text text.old) (view_text text.new) (view_edits from.old) (view_edits to.old) (view_edits from.new) (view_edits to.new) }
+    ensures turns { Turns may_break result (contents bench.old) (contents bench.new) (view_text text.old) (view_text text.new) (edits_in from.old) (edits_in to.old) (edits_in from.new) (edits_in to.new) }
     ensures few { vec_len from.new + vec_len to.new ≡ vec_len from.old + vec_len to.old }
     ensures room { vec_capacity from.new ≡ vec_capacity from.old }
     ensures to_room { vec_capacity to.new ≡ vec_capacity to.old }
@@ -117,8 +117,8 @@ fn exchange<B: BreakOff>(
     may_break: bool,
     break_off: &mut B,
 ) -> Result<(), EditFault>
-    ensures edits { EditsOrBreaksIf may_break result (contents_of bench.old) (edit_of (view_step step.old)) (contents_of bench.new) }
-    ensures exchanged { OnOk result ((view_step step.new ≡ back (contents_of bench.old) (view_text text.old) (view_step step.old)) × (view_text text.new ≡ text_after (view_text text.old) (view_step step.old))) }
+    ensures edits { EditsOrBreaksIf may_break result (contents bench.old) (edit_of (turn_of step.old)) (contents bench.new) }
+    ensures exchanged { OnOk result ((turn_of step.new ≡ back (contents bench.old) (view_text text.old) (turn_of step.old)) × (view_text text.new ≡ text_after (view_text text.old) (turn_of step.old))) }
     ensures kept { OnErr result ((step.new ≡ step.old) × (text.new ≡ text.old)) }
     ensures untold { OnOk result (B.said break_off.new ≡ B.said break_off.old) }
     ensures told { IfErr result (λ f. BreaksIfTold (B.said break_off.old) (B.said break_off.new) f) }
@@ -139,8 +139,8 @@ fn exchange_text<B: BreakOff>(
     may_break: bool,
     break_off: &mut B,
 ) -> Result<(), EditFault>
-    ensures edits { EditsOrBreaksIf may_break result (contents_of bench.old) (edit_of (ToText other.old.items)) (contents_of bench.new) }
-    ensures exchanged { OnOk result ((other.new.items ≡ text_in (contents_of bench.old) (view_text text.old)) × (view_text text.new ≡ Some other.old.items)) }
+    ensures edits { EditsOrBreaksIf may_break result (contents bench.old) (edit_of (ToText other.old.items)) (contents bench.new) }
+    ensures exchanged { OnOk result ((other.new.items ≡ text_in (contents bench.old) (view_text text.old)) × (view_text text.new ≡ Some other.old.items)) }
     ensures kept { OnErr result ((other.new ≡ other.old) × (text.new ≡ text.old)) }
     ensures untold { OnOk result (B.said break_off.new ≡ B.said break_off.old) }
     ensures told { IfErr result (λ f. BreaksIfTold (B.said break_off.old) (B.said break_off.new) f) }
@@ -158,8 +158,8 @@ fn exchange_limit<B: BreakOff>(
     may_break: bool,
     break_off: &mut B,
 ) -> Result<(), EditFault>
-    ensures edits { EditsOrBreaksIf may_break result (contents_of bench.old) (edit_of (ToLimit limit.old)) (contents_of bench.new) }
-    ensures exchanged { OnOk result (limit.new ≡ (contents_of bench.old).setting.limit) }
+    ensures edits { EditsOrBreaksIf may_break result (contents bench.old) (edit_of (ToLimit limit.old)) (contents bench.new) }
+    ensures exchanged { OnOk result (limit.new ≡ (contents bench.old).setting.limit) }
     ensures kept { OnErr result (limit.new ≡ limit.old) }
     ensures untold { OnOk result (B.said break_off.new ≡ B.said break_off.old) }
     ensures told { IfErr result (λ f. BreaksIfTold (B.said break_off.old) (B.said break_off.new) f) }
@@ -176,7 +176,7 @@ pub(crate) fn text_of(
     bench: &Bench,
     text: &Option<Vec<u8>>,
 ) -> Result<Vec<u8>, AllocError>
-    ensures { IfOk result (λ t. t.items ≡ text_in (contents_of bench.now) (view_text text.now)) }
+    ensures { IfOk result (λ t. t.items ≡ text_in (contents bench.now) (view_text text.now)) }
 {
     match text {
         Some(text) => Vec::from_slice(alloc, text),
