@@ -21,14 +21,14 @@ pub fn needs_touches_are_touched()
 
 /// Needs the whole of the law `frame`.
 pub fn needs_frame()
-    ensures { (picked : Item' → Bool) (s t : Source) → IsClosed picked s → AgreeOutside picked s t → (word : List ℕ) (limit : ℕ) → list_any picked (touched_items s word limit) ≡ false → RunsAlike s t word limit }
+    ensures { (picked : Item' → Bool) (s t : Source) → IsClosed picked s → AgreeOutside picked s t → (w : List ℕ) (limit : ℕ) → list_any picked (touched_items s w limit) ≡ false → RunsAlike s t w limit }
 {
     frame();
 }
 
 /// Needs the whole of the law `unmet_stay`.
 pub fn needs_unmet_stay()
-    ensures { (x : Item') (s t : Source) → PassesChecks s → AgreeOutside (is_affected_by s x) s t → (word : List ℕ) (limit : ℕ) → meets x s word limit ≡ false → StaysAsItWas s t word limit }
+    ensures { (x : Item') (s t : Source) → PassesChecks s → AgreeOutside (is_affected_by s x) s t → (w : List ℕ) (limit : ℕ) → meets x s w limit ≡ false → StaysAsItWas s t w limit }
 {
     unmet_stay();
 }
@@ -36,14 +36,14 @@ pub fn needs_unmet_stay()
 /// Needs the whole of the law `clear_stay`.
 pub fn needs_clear_stay()
     ensures names { (picked : Item' → Bool) (s t : Source) → AgreeOutside picked s t → names_of t ≡ names_of s }
-    ensures clear { (picked : Item' → Bool) (s t : Source) → IsClosed picked s → AgreeOutside picked s t → (word : List ℕ) (limit : ℕ) → TouchesNone picked s word limit → StaysAsItWas s t word limit }
+    ensures clear { (picked : Item' → Bool) (s t : Source) → IsClosed picked s → AgreeOutside picked s t → (w : List ℕ) (limit : ℕ) → TouchesNone picked s w limit → StaysAsItWas s t w limit }
 {
     clear_stay();
 }
 
 /// Needs the whole of the law `unmet_by_one_stay`.
 pub fn needs_unmet_by_one_stay()
-    ensures { (xs : List Item') (s t : Source) → PassesChecks s → AgreeOutside (affected_by s xs) s t → (word : List ℕ) (limit : ℕ) → meets_one xs s word limit ≡ false → StaysAsItWas s t word limit }
+    ensures { (xs : List Item') (s t : Source) → PassesChecks s → AgreeOutside (affected_by s xs) s t → (w : List ℕ) (limit : ℕ) → meets_one xs s w limit ≡ false → StaysAsItWas s t w limit }
 {
     unmet_by_one_stay();
 }

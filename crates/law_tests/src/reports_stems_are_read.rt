@@ -12,8 +12,8 @@ use sbl_reports::laws::written_stems_are_read;
 
 /// Needs the whole of the law `written_stems_are_read`.
 pub fn needs_written_stems_are_read()
-    ensures read { (rows : List Row) (text : List ℕ) → HaveCharacters rows → stem_lines rows ≡ Some text → (length (lines_of text) ≡ length rows) × (are_text (lines_of text) ≡ true) × (rows_read rows text ≡ rows) }
-    ensures changes { (rows : List Row) (text : List ℕ) → HaveCharacters rows → HasOneRowEach rows → stem_lines rows ≡ Some text → changes_of (rows_read rows text) rows ≡ [] }
+    ensures read { (rows : List Row) (t : List ℕ) → HaveCharacters rows → stem_lines rows ≡ Some t → (length (lines_of t) ≡ length rows) × (are_text (lines_of t) ≡ true) × (rows_read rows t ≡ rows) }
+    ensures changes { (rows : List Row) (t : List ℕ) → HaveCharacters rows → HasOneRowEach rows → stem_lines rows ≡ Some t → changes_of (rows_read rows t) rows ≡ [] }
 {
     written_stems_are_read();
 }

@@ -14,7 +14,7 @@ use sbl_resolver::laws::{each_fault_is_listed, fault_is_first_of_all, substrings
 
 /// Needs the whole of the law `substrings_are_paired`.
 pub fn needs_substrings_are_paired()
-    ensures { (items : List Item) (external : List ℕ) → WellDeclared items external → (before after : List Occurrence) (p : Site) → ComesTo items before p substring after → is_followed p.mode after ≡ true }
+    ensures { (items : List Item) (external : List ℕ) → WellDeclared items external → (before rest : List Occurrence) (p : Site) → ComesTo items before p substring rest → is_followed p.mode rest ≡ true }
 {
     substrings_are_paired();
 }

@@ -32,8 +32,8 @@ pub fn needs_each_search_takes_first()
 
 /// Needs the whole of the law `plain_searches_take_longest`.
 pub fn needs_plain_searches_take_longest()
-    ensures longest { (ns : DeclaredNames) (bodies : List ℕ → Option Body) (os : List Offer) (calls_made : List Call) (n : ℕ) → ArePlain os → OneTaken ns bodies os n calls_made → first_length os ≡ Some n }
-    ensures one { (ns : DeclaredNames) (bodies : List ℕ → Option Body) (os : List Offer) (calls_made : List Call) → ArePlain os → AllRefused ns bodies os calls_made → first_length os ≡ None }
+    ensures longest { (ns : DeclaredNames) (bodies : List ℕ → Option Body) (os : List Offer) (calls : List Call) (n : ℕ) → ArePlain os → OneTaken ns bodies os n calls → first_length os ≡ Some n }
+    ensures one { (ns : DeclaredNames) (bodies : List ℕ → Option Body) (os : List Offer) (calls : List Call) → ArePlain os → AllRefused ns bodies os calls → first_length os ≡ None }
 {
     plain_searches_take_longest();
 }

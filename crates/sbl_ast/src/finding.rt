@@ -7,7 +7,7 @@ ghost use Rattle.sbl_ast.specs.Amongs.{AmongContents, amongs_of_body, amongs_of_
 ghost use Rattle.sbl_ast.specs.WalkEnds.{Finds, among_command, amongs_of_row, placed_row};
 ghost use Rattle.sbl_ast.specs.Places.{placed_command, placed_groups, placed_others, placed_rows, placed_starter, max_depth, AreShallow};
 ghost use Rattle.sbl_ast.specs.Texts.{body, places_in};
-ghost use Rattle.sbl_ast.specs.Tree as trees;
+ghost use Rattle.sbl_ast.specs.Tree.{Entry};
 ghost use Rattle.sbl_ast.specs.View.{view_among, view_command, view_row};
 ghost use Rattle.sbl_ast.specs.inside.ViewParts.{view_groups, view_others, view_rows};
 
@@ -67,7 +67,7 @@ fn in_starter(among: &Among, depth: u8, number: u64) -> WalkEnd<'_>
 
 #[cycle(find)]
 fn in_groups(groups: &Vec<Group>, depth: u8, number: u64) -> WalkEnd<'_>
-    ensures { AreShallow (placed_groups (view_groups groups.now.items []) depth []) → (bare : List trees.Entry) → Finds result number (λ rest. amongs_of_groups (view_groups groups.now.items bare) depth rest) }
+    ensures { AreShallow (placed_groups (view_groups groups.now.items []) depth []) → (bare : List Entry) → Finds result number (λ rest. amongs_of_groups (view_groups groups.now.items bare) depth rest) }
 {
     let mut following = number;
     for group in groups {

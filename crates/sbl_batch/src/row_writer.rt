@@ -7,7 +7,7 @@ ghost use Rattle.sbl_rows.specs.Setting.{under};
 ghost use Rattle.sbl_semantics.specs.Limit.{default_limit, max_word_length};
 ghost use Rattle.sbl_machine.specs.MachineOf.{IsLinkedMachineOf};
 ghost use Rattle.sbl_io.specs.Devices.{HasStopped, WritesInTime};
-ghost use Rattle.sbl_io.specs.Records as texts;
+ghost use Rattle.sbl_io.specs.Records.{record_line};
 ghost use Rattle.sbl_ast.specs.Source.{Source};
 ghost use Rattle.sbl_batch.specs.HeldRows.{WritesPart};
 ghost use Rattle.sbl_batch.specs.LineWriter.{IsBetweenLines};
@@ -118,7 +118,7 @@ pub(crate) fn push_row(
     requires is { characters.now ≡ chars word.now }
     requires fits { length characters.now ≤ max_word_length }
     requires between { IsBetweenLines rows.old.lines }
-    ensures row { (s : Source) → IsLinkedMachineOf machine.now s → OnOk result (rows.new.text.items ≡ rows.old.text.items ++ texts.record_line (row_fields (row_of (under s default_limit) (chars word.now)))) }
+    ensures row { (s : Source) → IsLinkedMachineOf machine.now s → OnOk result (rows.new.text.items ≡ rows.old.text.items ++ record_line (row_fields (row_of (under s default_limit) (chars word.now)))) }
     ensures stays { OnErr result (rows.new.text.items ≡ rows.old.text.items) }
     ensures between { OnOk result (IsBetweenLines rows.new.lines) }
 {

@@ -5,7 +5,7 @@ ghost use Rattle.sbl_batch.specs.HeldRows.{ReadsToEndOf};
 ghost use Rattle.sbl_batch.specs.LineWriter.{IsBetweenLines};
 ghost use Rattle.sbl_batch.specs.ToEnd.{FiltersToEnd, with_line, without_line};
 ghost use Rattle.sbl_io.specs.Devices.{HasStopped, WritesInTime};
-ghost use Rattle.sbl_io.specs.HeldInput.{KeepsTime, fault_of, input_of, reads_bound};
+ghost use Rattle.sbl_io.specs.HeldInput.{KeepsTime, fault_of as fault, input_of as input, reads_bound};
 ghost use Rattle.sbl_machine.specs.MachineOf.{IsLinkedMachineOf};
 ghost use Rattle.sbl_script.specs.ParsedScript.{source_of};
 ghost use Rattle.sbl_input.specs.Faults.{left_by_load};
@@ -34,13 +34,13 @@ fn read_lines<R: Source + Drop, W: Sink>(
     requires made { (s : Source) × IsLinkedMachineOf machine.now s }
     requires between { IsBetweenLines rows.old.lines }
     requires none { rows.old.text.items ≡ [] }
-    ensures reads { (s : Source) → IsLinkedMachineOf machine.now s → fault_of lines.old ≡ None → ReadsToEndOf R.left W.held s lines.old lines.new writer.old writer.new rows.new.text.items line.new result }
-    ensures remembered { fault_of lines.old ≡ None → fault_of lines.new ≡ left_by_load result }
+    ensures reads { (s : Source) → IsLinkedMachineOf machine.now s → fault lines.old ≡ None → ReadsToEndOf R.left W.held s lines.old lines.new writer.old writer.new rows.new.text.items line.new result }
+    ensures remembered { fault lines.old ≡ None → fault lines.new ≡ left_by_load result }
     ensures bound { reads_bound R.tally lines.new ≡ reads_bound R.tally lines.old }
     ensures steady { OnOk result (((R.tally lines.new.reader).failures ≡ (R.tally lines.old.reader).failures) × ((W.tally writer.new).failures ≡ (W.tally writer.old).failures)) }
     ensures later_write { (W.tally writer.old).failures ≤ (W.tally writer.new).failures }
-    ensures why { IfErr result (λ fault. HasReason R.tally lines.old lines.new fault) }
-    ensures why_write { IfErr result (λ fault. fault ≡ LoadFault.Input ServeFault.Write → HasStopped W.tally writer.old writer.new × (rows.new.text.items ≡ [])) }
+    ensures why { IfErr result (λ f. HasReason R.tally lines.old lines.new f) }
+    ensures why_write { IfErr result (λ f. f ≡ LoadFault.Input ServeFault.Write → HasStopped W.tally writer.old writer.new × (rows.new.text.items ≡ [])) }
     ensures reads_in_time { KeepsTime R.tally lines.old lines.new }
     ensures writes_in_time { WritesInTime W.tally writer.old writer.new }
     ensures rested { (rows.new.text.items ≡ []) ⊎ ((W.tally writer.old).interruptions ≡ 0 → (W.tally writer.new).interruptions ≡ 0) }
@@ -65,12 +65,12 @@ fn filter_lines<R: Source + Drop, W: Sink>(
     line: &mut u64,
 ) -> Result<(), LoadFault>
     requires { line.old ≡ 1 }
-    ensures filters { fault_of lines.old ≡ None → FiltersToEnd (source_of script.now) (input_of R.left lines.old) (input_of R.left lines.new) (W.held writer.old) (W.held writer.new) (with_line line.new result) }
-    ensures remembered { fault_of lines.old ≡ None → fault_of lines.new ≡ left_by_load result }
+    ensures filters { fault lines.old ≡ None → FiltersToEnd (source_of script.now) (input R.left lines.old) (input R.left lines.new) (W.held writer.old) (W.held writer.new) (with_line line.new result) }
+    ensures remembered { fault lines.old ≡ None → fault lines.new ≡ left_by_load result }
     ensures bound { reads_bound R.tally lines.new ≡ reads_bound R.tally lines.old }
     ensures steady { OnOk result (((R.tally lines.new.reader).failures ≡ (R.tally lines.old.reader).failures) × ((W.tally writer.new).failures ≡ (W.tally writer.old).failures)) }
-    ensures why { IfErr result (λ fault. HasReason R.tally lines.old lines.new fault) }
-    ensures why_write { IfErr result (λ fault. fault ≡ LoadFault.Input ServeFault.Write → HasStopped W.tally writer.old writer.new) }
+    ensures why { IfErr result (λ f. HasReason R.tally lines.old lines.new f) }
+    ensures why_write { IfErr result (λ f. f ≡ LoadFault.Input ServeFault.Write → HasStopped W.tally writer.old writer.new) }
     ensures reads_in_time { KeepsTime R.tally lines.old lines.new }
     ensures writes_in_time { WritesInTime W.tally writer.old writer.new }
 {
@@ -104,8 +104,8 @@ pub fn filter_to_end<R: Source + Drop, W: Sink>(
     script: &Script,
     writer: &mut W,
 ) -> Result<(), WordFault>
-    ensures filters { fault_of lines.old ≡ None → FiltersToEnd (source_of script.now) (input_of R.left lines.old) (input_of R.left lines.new) (W.held writer.old) (W.held writer.new) result }
-    ensures remembered { fault_of lines.old ≡ None → fault_of lines.new ≡ left_by_load (without_line result) }
+    ensures filters { fault lines.old ≡ None → FiltersToEnd (source_of script.now) (input R.left lines.old) (input R.left lines.new) (W.held writer.old) (W.held writer.new) result }
+    ensures remembered { fault lines.old ≡ None → fault lines.new ≡ left_by_load (without_line result) }
     ensures bound { reads_bound R.tally lines.new ≡ reads_bound R.tally lines.old }
     ensures steady { OnOk result (((R.tally lines.new.reader).failures ≡ (R.tally lines.old.reader).failures) × ((W.tally writer.new).failures ≡ (W.tally writer.old).failures)) }
     ensures why { IfErr result (λ e. HasReason R.tally lines.old lines.new e.fault) }

@@ -2,7 +2,7 @@
 
 ghost use Rattle.std.specs.Prelude.{◌≡◌, IfOk};
 ghost use Rattle.sbl_bench.specs.inside.AffectedWords as spec;
-ghost use Rattle.sbl_bench.specs.inside.AffectedWords.{AreMet, IsLinkedMachineOf, differs, source_of};
+ghost use Rattle.sbl_bench.specs.inside.AffectedWords.{AreMet, Defines, IsLinkedMachineOf, differs, item_list, source_of};
 ghost use Rattle.sbl_bench.specs.inside.Changes.{affected_of};
 
 use crate::last_run::LastRun;
@@ -31,7 +31,7 @@ pub(crate) fn affected_by_items(
     script: &Script,
     items: &[Item],
 ) -> Result<AffectedWords, AllocError>
-    ensures { IsLinkedMachineOf machine.now (source_of script.now) → spec.Defines (source_of script.now) items.now → IfOk result (λ a. AreMet (source_of script.now) (spec.item_list items.now) (affected_of a)) }
+    ensures { IsLinkedMachineOf machine.now (source_of script.now) → Defines (source_of script.now) items.now → IfOk result (λ a. AreMet (source_of script.now) (item_list items.now) (affected_of a)) }
 {
     let marks = machine.affected_touches(alloc, script, items)?;
     Ok(AffectedWords::Touching(marks))

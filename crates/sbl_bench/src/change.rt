@@ -109,7 +109,7 @@ fn run_words<B: BreakOff>(
 ) -> Result<Vec<Change>, EditFault>
     requires sound { All IsWord (map (λ w. w.now) words.now) }
     requires room { meter.old + length words.now ≤ max_runs }
-    ensures changes { (s : Source) → IsLinkedMachineOf machine.now s → IfOk result (λ changes. map view_change changes.items ≡ reruns (under s limit) (map (λ w. w.now) words.now)) }
+    ensures changes { (s : Source) → IsLinkedMachineOf machine.now s → IfOk result (λ c. map view_change c.items ≡ reruns (under s limit) (map (λ w. w.now) words.now)) }
     ensures counted { OnOk result (meter.new ≡ meter.old + length words.now) }
     ensures stop { IfErr result (λ f. IsStopOf (length words.now) f meter.old meter.new) }
     ensures untold { OnOk result (B.said break_off.new ≡ B.said break_off.old) }
@@ -140,7 +140,7 @@ pub(crate) fn rerun<B: BreakOff>(
     break_off: &mut B,
 ) -> Result<Vec<Change>, EditFault>
     requires sound { All IsWord (words_in traces.now.entries) }
-    ensures changes { (s : Source) → IsLinkedMachineOf machine.now s → IfOk result (λ changes. map view_change changes.items ≡ reruns (under s limit) (spec.met_words (affected_of affected.now) traces.now.entries)) }
+    ensures changes { (s : Source) → IsLinkedMachineOf machine.now s → IfOk result (λ c. map view_change c.items ≡ reruns (under s limit) (spec.met_words (affected_of affected.now) traces.now.entries)) }
     ensures counted { OnOk result (meter.new ≡ meter.old + length (spec.met_words (affected_of affected.now) traces.now.entries)) }
     ensures room { OnOk result (length (spec.met_words (affected_of affected.now) traces.now.entries) ≤ max_runs - meter.old) }
     ensures stop { IfErr result (λ f. IsStopOf (length (spec.met_words (affected_of affected.now) traces.now.entries)) f meter.old meter.new) }

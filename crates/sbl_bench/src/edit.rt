@@ -28,7 +28,7 @@ use std::slice::from_ref;
 
 impl Bench {
     ghost use Rattle.sbl_bench.specs.BreakingOff.{BreaksIfTold, EditsOrBreaks};
-    ghost use Rattle.sbl_bench.specs.KeptRuns.{contents_of};
+    ghost use Rattle.sbl_bench.specs.KeptRuns.{contents_of as contents};
     ghost use Rattle.sbl_bench.specs.inside.Changes.{Brings, IsExchange, IsTaken, affected_of};
     ghost use Rattle.sbl_bench.specs.Edits.{Edit, Edits, Add, Grouping, Limit, Remove, Replace, Routine, Among, Whole};
     ghost use Rattle.sbl_bench.specs.LeavesChanges.{LeavesChanges};
@@ -46,7 +46,7 @@ impl Bench {
     /// the script, vocabulary, rows and classes are unchanged. The count of runs is unchanged too, except that it may be higher
     /// by one after `OutOfMemory`. (Our own choice.)
     pub fn add(&mut self, word: &[char]) -> Result<(), EditFault>
-        ensures edits { Edits result (contents_of self.old) (Add word.now) (contents_of self.new) }
+        ensures edits { Edits result (contents self.old) (Add word.now) (contents self.new) }
         ensures changes { LeavesChanges result self.old self.new }
     {
         if word.is_empty() {
@@ -82,7 +82,7 @@ impl Bench {
     /// Removes a word from the vocabulary; the words after it move up. Returns `Absent` if the word is not in the vocabulary,
     /// and then changes nothing. Does not allocate.
     pub fn remove(&mut self, word: &[char]) -> Result<(), EditFault>
-        ensures edits { Edits result (contents_of self.old) (Remove word.now) (contents_of self.new) }
+        ensures edits { Edits result (contents self.old) (Remove word.now) (contents self.new) }
         ensures changes { LeavesChanges result self.old self.new }
     {
         words_are_unique(&self.traces);
@@ -109,7 +109,7 @@ impl Bench {
     /// are unchanged. The count of runs is unchanged too, except that after `OutOfMemory` it may be higher by at most the number
     /// of words to run, if the edit would have been accepted. (Our own choice.)
     pub fn replace(&mut self, part: Part<'_>, text: &str) -> Result<(), EditFault>
-        ensures edits { Edits result (contents_of self.old) (Replace (view_part part.entry) text.now) (contents_of self.new) }
+        ensures edits { Edits result (contents self.old) (Replace (view_part part.entry) text.now) (contents self.new) }
         ensures changes { LeavesChanges result self.old self.new }
     {
         self.replace_or_break(part, text, &mut NeverBreak {})
@@ -127,7 +127,7 @@ impl Bench {
         text: &str,
         break_off: &mut B,
     ) -> Result<(), EditFault>
-        ensures edits { EditsOrBreaks result (contents_of self.old) (Replace (view_part part.entry) text.now) (contents_of self.new) }
+        ensures edits { EditsOrBreaks result (contents self.old) (Replace (view_part part.entry) text.now) (contents self.new) }
         ensures changes { LeavesChanges result self.old self.new }
         ensures untold { OnOk result (B.said break_off.new ≡ B.said break_off.old) }
         ensures told { IfErr result (λ f. BreaksIfTold (B.said break_off.old) (B.said break_off.new) f) }
@@ -139,7 +139,7 @@ impl Bench {
 
     /// Replaces the body of the routine or external of this name, as `replace` does.
     pub fn replace_routine(&mut self, name: &str, text: &str) -> Result<(), EditFault>
-        ensures edits { Edits result (contents_of self.old) (Routine name.now text.now) (contents_of self.new) }
+        ensures edits { Edits result (contents self.old) (Routine name.now text.now) (contents self.new) }
         ensures changes { LeavesChanges result self.old self.new }
     {
         self.replace(Part::Routine(name), text)
@@ -148,7 +148,7 @@ impl Bench {
     /// Replaces the `k`-th among of the routine or external of this name, as `replace` does. Amongs are counted from 1 in the
     /// order of the words `among`.
     pub fn replace_among(&mut self, name: &str, k: u64, text: &str) -> Result<(), EditFault>
-        ensures edits { Edits result (contents_of self.old) (Among name.now k text.now) (contents_of self.new) }
+        ensures edits { Edits result (contents self.old) (Among name.now k text.now) (contents self.new) }
         ensures changes { LeavesChanges result self.old self.new }
     {
         self.replace(Part::Among(name, k), text)
@@ -156,7 +156,7 @@ impl Bench {
 
     /// Replaces the terms of the grouping of this name, as `replace` does.
     pub fn replace_grouping(&mut self, name: &str, text: &str) -> Result<(), EditFault>
-        ensures edits { Edits result (contents_of self.old) (Grouping name.now text.now) (contents_of self.new) }
+        ensures edits { Edits result (contents self.old) (Grouping name.now text.now) (contents self.new) }
         ensures changes { LeavesChanges result self.old self.new }
     {
         self.replace(Part::Grouping(name), text)
@@ -171,7 +171,7 @@ impl Bench {
     /// is unchanged too, except that after `OutOfMemory` it may be higher by at most the number of words to run. (Our own
     /// choice.)
     pub fn set_limit(&mut self, number: u64) -> Result<(), EditFault>
-        ensures edits { Edits result (contents_of self.old) (Limit number) (contents_of self.new) }
+        ensures edits { Edits result (contents self.old) (Limit number) (contents self.new) }
         ensures changes { LeavesChanges result self.old self.new }
     {
         self.set_limit_or_break(number, &mut NeverBreak {})
@@ -188,7 +188,7 @@ impl Bench {
         number: u64,
         break_off: &mut B,
     ) -> Result<(), EditFault>
-        ensures edits { EditsOrBreaks result (contents_of self.old) (Limit number) (contents_of self.new) }
+        ensures edits { EditsOrBreaks result (contents self.old) (Limit number) (contents self.new) }
         ensures changes { LeavesChanges result self.old self.new }
         ensures untold { OnOk result (B.said break_off.new ≡ B.said break_off.old) }
         ensures told { IfErr result (λ f. BreaksIfTold (B.said break_off.old) (B.said break_off.new) f) }
@@ -232,7 +232,7 @@ impl Bench {
     /// after `OutOfMemory` it may be higher by at most the number of words to run, if the edit would have been accepted. (Our
     /// own choice.)
     pub fn replace_script(&mut self, text: &[u8]) -> Result<(), EditFault>
-        ensures edits { Edits result (contents_of self.old) (Whole text.now) (contents_of self.new) }
+        ensures edits { Edits result (contents self.old) (Whole text.now) (contents self.new) }
         ensures changes { LeavesChanges result self.old self.new }
     {
         self.replace_script_or_break(text, &mut NeverBreak {})
@@ -249,7 +249,7 @@ impl Bench {
         text: &[u8],
         break_off: &mut B,
     ) -> Result<(), EditFault>
-        ensures edits { EditsOrBreaks result (contents_of self.old) (Whole text.now) (contents_of self.new) }
+        ensures edits { EditsOrBreaks result (contents self.old) (Whole text.now) (contents self.new) }
         ensures changes { LeavesChanges result self.old self.new }
         ensures untold { OnOk result (B.said break_off.new ≡ B.said break_off.old) }
         ensures told { IfErr result (λ f. BreaksIfTold (B.said break_off.old) (B.said break_off.new) f) }
@@ -265,8 +265,8 @@ impl Bench {
         item: &Item,
         break_off: &mut B,
     ) -> Result<(), EditFault>
-        requires { (e : ScriptEdit) × (text : List ℕ) × IsTaken (contents_of self.old) e text (source_of script) (item_of item.now) }
-        ensures edits { (e : ScriptEdit) (text : List ℕ) → IsTaken (contents_of self.old) e text (source_of script) (item_of item.now) → EditsOrBreaks result (contents_of self.old) (Replace e text) (contents_of self.new) }
+        requires { (e : ScriptEdit) × (t : List ℕ) × IsTaken (contents self.old) e t (source_of script) (item_of item.now) }
+        ensures edits { (e : ScriptEdit) (t : List ℕ) → IsTaken (contents self.old) e t (source_of script) (item_of item.now) → EditsOrBreaks result (contents self.old) (Replace e t) (contents self.new) }
         ensures changes { LeavesChanges result self.old self.new }
         ensures untold { OnOk result (B.said break_off.new ≡ B.said break_off.old) }
         ensures told { IfErr result (λ f. BreaksIfTold (B.said break_off.old) (B.said break_off.new) f) }
@@ -287,8 +287,8 @@ impl Bench {
         script: &mut Script,
         break_off: &mut B,
     ) -> Result<(), EditFault>
-        requires { (e : Edit) × IsExchange (contents_of self.old) e (source_of script.old) }
-        ensures edits { (e : Edit) → IsExchange (contents_of self.old) e (source_of script.old) → EditsOrBreaks result (contents_of self.old) e (contents_of self.new) }
+        requires { (e : Edit) × IsExchange (contents self.old) e (source_of script.old) }
+        ensures edits { (e : Edit) → IsExchange (contents self.old) e (source_of script.old) → EditsOrBreaks result (contents self.old) e (contents self.new) }
         ensures changes { LeavesChanges result self.old self.new }
         ensures untold { OnOk result (B.said break_off.new ≡ B.said break_off.old) }
         ensures told { IfErr result (λ f. BreaksIfTold (B.said break_off.old) (B.said break_off.new) f) }
@@ -313,8 +313,8 @@ impl Bench {
         affected: &AffectedWords,
         break_off: &mut B,
     ) -> Result<(), EditFault>
-        requires { (e : Edit) × Brings (contents_of self.old) e (under (source_of script.old) self.old.limit) (affected_of affected.now) }
-        ensures edits { (e : Edit) → Brings (contents_of self.old) e (under (source_of script.old) self.old.limit) (affected_of affected.now) → EditsOrBreaks result (contents_of self.old) e (contents_of self.new) }
+        requires { (e : Edit) × Brings (contents self.old) e (under (source_of script.old) self.old.limit) (affected_of affected.now) }
+        ensures edits { (e : Edit) → Brings (contents self.old) e (under (source_of script.old) self.old.limit) (affected_of affected.now) → EditsOrBreaks result (contents self.old) e (contents self.new) }
         ensures changes { LeavesChanges result self.old self.new }
         ensures untold { OnOk result (B.said break_off.new ≡ B.said break_off.old) }
         ensures told { IfErr result (λ f. BreaksIfTold (B.said break_off.old) (B.said break_off.new) f) }

@@ -38,7 +38,7 @@ fn affected_rows<'a>(
     affected: &AffectedWords,
     traces: &'a Traces,
 ) -> Result<Vec<Row<'a>>, AllocError>
-    ensures { IfOk result (λ rows. map view_row rows.items ≡ map row_shown (filter (is_met (affected_of affected.now)) traces.now.entries)) }
+    ensures { IfOk result (λ v. map view_row v.items ≡ map row_shown (filter (is_met (affected_of affected.now)) traces.now.entries)) }
 {
     let mut rows = Vec::new(alloc);
     for (word, last) in traces.iter() {
@@ -61,7 +61,7 @@ impl Bench {
     ///
     /// Returns `AllocError` if an allocation fails.
     pub fn rows_meeting(&self, item: &Item) -> Result<Vec<Row<'_>>, AllocError>
-        ensures { has_item (names_of (setting_of self.now).script) (item_of item.now) ≡ true → IfOk result (λ rows. map view_row rows.items ≡ rows_meeting (setting_of self.now) self.now.words (item_of item.now)) }
+        ensures { has_item (names_of (setting_of self.now).script) (item_of item.now) ≡ true → IfOk result (λ v. map view_row v.items ≡ rows_meeting (setting_of self.now) self.now.words (item_of item.now)) }
     {
         one_item_alone();
         let items = from_ref(item);

@@ -5,7 +5,9 @@ ghost use Rattle.sbl_ast.specs.Order.{view_in_mode};
 ghost use Rattle.sbl_ast.specs.View.{view_command, view_row, view_among, view_entry, view_plain};
 ghost use Rattle.sbl_ast.specs.inside.ViewParts.{view_rows, view_others, view_groups, view_name};
 ghost use Rattle.sbl_ast.specs.Tree as trees;
+ghost use Rattle.sbl_ast.specs.Tree.{among_};
 ghost use Rattle.sbl_compiler.specs.NumberedAmongs as spec;
+ghost use Rattle.sbl_compiler.specs.NumberedAmongs.{found_after, found_command, found_groups, found_of, found_others, found_plain, found_rows};
 ghost use Rattle.sbl_program.specs.FoundView.{texts};
 ghost use Rattle.sbl_compiler.specs.NumberedView.{AddsGroups, Finds, found_row, view_found, view_names};
 ghost use Rattle.sbl_semantics.specs.Landmarks.{mode_under as spec_mode_after};
@@ -176,7 +178,7 @@ impl<'a> Finder<'a> {
 
     // Adds an among after the others, before those inside it. Returns `AllocError` if an allocation fails.
     fn add_among(&self, among: &Among, all: &mut Vec<AmongStrings>) -> Result<(), AllocError>
-        ensures { OnOk result (Finds all.old.items all.new.items (λ fs. fs ++ spec.found_of (view_names self.now.names.now) self.now.first self.now.mode (view_among among.now).1 fs ∷ [])) }
+        ensures { OnOk result (Finds all.old.items all.new.items (λ fs. fs ++ found_of (view_names self.now.names.now) self.now.first self.now.mode (view_among among.now).1 fs ∷ [])) }
     {
         let number = all.len().saturating_sub(self.first);
         let strings = strings_of(self.alloc, &among.groups, &among.bare)?;
@@ -193,7 +195,7 @@ impl<'a> Finder<'a> {
     // Adds the amongs of a command. Returns `AllocError` if an allocation fails.
     #[cycle(finding)]
     fn find(&self, command: &Command, all: &mut Vec<AmongStrings>) -> Result<(), AllocError>
-        ensures { OnOk result (Finds all.old.items all.new.items (spec.found_command (view_names self.now.names.now) self.now.first self.now.mode (view_command command.now))) }
+        ensures { OnOk result (Finds all.old.items all.new.items (found_command (view_names self.now.names.now) self.now.first self.now.mode (view_command command.now))) }
     {
         match command {
             Command::Bracket(rows) => self.find_rows(rows, all),
@@ -214,7 +216,7 @@ impl<'a> Finder<'a> {
         rows: &Vec<RowOfCommands>,
         all: &mut Vec<AmongStrings>,
     ) -> Result<(), AllocError>
-        ensures { OnOk result (Finds all.old.items all.new.items (spec.found_rows (view_names self.now.names.now) self.now.first self.now.mode (view_rows rows.now.items))) }
+        ensures { OnOk result (Finds all.old.items all.new.items (found_rows (view_names self.now.names.now) self.now.first self.now.mode (view_rows rows.now.items))) }
     {
         for row in rows {
             self.find_row(row, all)?;
@@ -236,7 +238,7 @@ impl<'a> Finder<'a> {
         others: &Vec<NextCommand>,
         all: &mut Vec<AmongStrings>,
     ) -> Result<(), AllocError>
-        ensures { OnOk result (Finds all.old.items all.new.items (spec.found_others (view_names self.now.names.now) self.now.first self.now.mode (view_others others.now.items))) }
+        ensures { OnOk result (Finds all.old.items all.new.items (found_others (view_names self.now.names.now) self.now.first self.now.mode (view_others others.now.items))) }
     {
         for joined in others {
             self.find(&joined.command, all)?;
@@ -246,7 +248,7 @@ impl<'a> Finder<'a> {
 
     #[cycle(finding)]
     fn find_among(&self, among: &Among, all: &mut Vec<AmongStrings>) -> Result<(), AllocError>
-        ensures { OnOk result (Finds all.old.items all.new.items (spec.found_command (view_names self.now.names.now) self.now.first self.now.mode (trees.among_ (view_among among.now).0 (view_among among.now).1))) }
+        ensures { OnOk result (Finds all.old.items all.new.items (found_command (view_names self.now.names.now) self.now.first self.now.mode (among_ (view_among among.now).0 (view_among among.now).1))) }
     {
         self.add_among(among, all)?;
         if let Some(rows) = &among.starter {
@@ -261,7 +263,7 @@ impl<'a> Finder<'a> {
         groups: &Vec<Group>,
         all: &mut Vec<AmongStrings>,
     ) -> Result<(), AllocError>
-        ensures { OnOk result ((bare : List trees.Entry) → Finds all.old.items all.new.items (spec.found_groups (view_names self.now.names.now) self.now.first self.now.mode (view_groups groups.now.items bare))) }
+        ensures { OnOk result ((bare : List trees.Entry) → Finds all.old.items all.new.items (found_groups (view_names self.now.names.now) self.now.first self.now.mode (view_groups groups.now.items bare))) }
     {
         for group in groups {
             self.find_rows(&group.rows, all)?;
@@ -277,7 +279,7 @@ fn find_plain(
     item: &ItemInMode,
     all: &mut Vec<AmongStrings>,
 ) -> Result<(), AllocError>
-    ensures { OnOk result (Finds all.old.items all.new.items (spec.found_plain (view_names names.now) item.now.mode (view_plain item.now.plain.now))) }
+    ensures { OnOk result (Finds all.old.items all.new.items (found_plain (view_names names.now) item.now.mode (view_plain item.now.plain.now))) }
 {
     if let Plain::Routine { name: _, body } = item.plain {
         let finder = Finder {
@@ -297,7 +299,7 @@ pub fn amongs_of(
     names: &SymbolTable,
     items: &[ItemInMode],
 ) -> Result<Vec<AmongStrings>, AllocError>
-    ensures { IfOk result (λ v. map view_found v.items ≡ spec.found_after (view_names names.now) (map view_in_mode items.now) []) }
+    ensures { IfOk result (λ v. map view_found v.items ≡ found_after (view_names names.now) (map view_in_mode items.now) []) }
 {
     let mut all = Vec::new(alloc);
     for item in items {

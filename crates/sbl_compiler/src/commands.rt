@@ -5,6 +5,7 @@ ghost use Rattle.sbl_ast.specs.View.{view_argument, view_command, view_row, view
 ghost use Rattle.sbl_ast.specs.inside.ViewParts.{view_rows, view_others, view_groups};
 ghost use Rattle.sbl_ast.specs.Tree as trees;
 ghost use Rattle.sbl_compiler.specs.NumberedItems as spec;
+ghost use Rattle.sbl_compiler.specs.NumberedItems.{numbered_command, numbered_groups, numbered_rows};
 ghost use Rattle.sbl_compiler.specs.NumberedView.{expression_in, integer_in, joined_in, names_in, node_in, numbered_before, numbered_row, place_in};
 ghost use Rattle.sbl_compiler.specs.NumberedNumbers.{expression as spec_expression, text as spec_text};
 ghost use Rattle.sbl_program.specs.Program as programs;
@@ -231,7 +232,7 @@ impl Compiler<'_> {
     /// Compiles a command, and moves `place` to the position after it. Returns `AllocError` if an allocation fails.
     #[cycle(commands)]
     fn node_of(&self, command: &Command, place: &mut CommandPosition) -> CompileResult<Node>
-        ensures made { IfOk result (λ n. node_in self.now n ≡ spec.numbered_command (names_in self.now) (view_command command.now) (place_in self.now place.old)) }
+        ensures made { IfOk result (λ n. node_in self.now n ≡ numbered_command (names_in self.now) (view_command command.now) (place_in self.now place.old)) }
         ensures following { OnOk result (place_in self.now place.new ≡ spec.past (view_command command.now) (place_in self.now place.old)) }
     {
         match command {
@@ -292,7 +293,7 @@ impl Compiler<'_> {
         rows: &Vec<RowOfCommands>,
         place: &mut CommandPosition,
     ) -> CompileResult<Vec<Node>>
-        ensures made { IfOk result (λ ns. map (node_in self.now) ns.items ≡ spec.numbered_rows (names_in self.now) (view_rows rows.now.items) (place_in self.now place.old)) }
+        ensures made { IfOk result (λ v. map (node_in self.now) v.items ≡ numbered_rows (names_in self.now) (view_rows rows.now.items) (place_in self.now place.old)) }
         ensures following { OnOk result (place_in self.now place.new ≡ spec.past_rows (view_rows rows.now.items) (place_in self.now place.old)) }
     {
         collect!(self.alloc; nodes: row in rows => node: self.row_of(row, place) => node)
@@ -330,7 +331,7 @@ impl Compiler<'_> {
 
     #[cycle(commands)]
     fn among_of(&self, among: &Among, place: &mut CommandPosition) -> CompileResult<Node>
-        ensures made { IfOk result (λ n. node_in self.now n ≡ spec.numbered_command (names_in self.now) (trees.among_ (view_among among.now).0 (view_among among.now).1) (place_in self.now place.old)) }
+        ensures made { IfOk result (λ n. node_in self.now n ≡ numbered_command (names_in self.now) (trees.among_ (view_among among.now).0 (view_among among.now).1) (place_in self.now place.old)) }
         ensures following { OnOk result (place_in self.now place.new ≡ spec.past (trees.among_ (view_among among.now).0 (view_among among.now).1) (place_in self.now place.old)) }
     {
         let number = self.next_number(*place);
@@ -355,7 +356,7 @@ impl Compiler<'_> {
     // chosen group. Returns `AllocError` if an allocation fails.
     #[cycle(commands)]
     fn before_of(&self, among: &Among, place: &mut CommandPosition) -> CompileResult<Vec<Node>>
-        ensures made { IfOk result (λ ns. map (node_in self.now) ns.items ≡ numbered_before (names_in self.now) (view_among among.now).0 (place_in self.now place.old)) }
+        ensures made { IfOk result (λ v. map (node_in self.now) v.items ≡ numbered_before (names_in self.now) (view_among among.now).0 (place_in self.now place.old)) }
         ensures following { OnOk result (place_in self.now place.new ≡ spec.past_starter (view_among among.now).0 (spec.inside (place_in self.now place.old))) }
     {
         let beginning = *place;
@@ -381,7 +382,7 @@ impl Compiler<'_> {
         rows: &Vec<RowOfCommands>,
         place: &mut CommandPosition,
     ) -> CompileResult<Vec<Node>>
-        ensures made { IfOk result (λ ns. map (node_in self.now) ns.items ≡ spec.numbered_rows (names_in self.now) (view_rows rows.now.items) (spec.region (view_rows rows.now.items) (place_in self.now place.old))) }
+        ensures made { IfOk result (λ v. map (node_in self.now) v.items ≡ numbered_rows (names_in self.now) (view_rows rows.now.items) (spec.region (view_rows rows.now.items) (place_in self.now place.old))) }
         ensures following { OnOk result (place_in self.now place.new ≡ spec.past_rows (view_rows rows.now.items) (spec.end_waiting (place_in self.now place.old))) }
     {
         let following = past_rows(self.amongs, rows, end_waiting(self.amongs, *place));
@@ -396,7 +397,7 @@ impl Compiler<'_> {
         groups: &Vec<Group>,
         place: &mut CommandPosition,
     ) -> CompileResult<Vec<Node>>
-        ensures made { IfOk result (λ ns. (bare : List trees.Entry) → map (node_in self.now) ns.items ≡ spec.numbered_groups (names_in self.now) (view_groups groups.now.items bare) (place_in self.now place.old)) }
+        ensures made { IfOk result (λ v. (bare : List trees.Entry) → map (node_in self.now) v.items ≡ numbered_groups (names_in self.now) (view_groups groups.now.items bare) (place_in self.now place.old)) }
         ensures following { OnOk result ((bare : List trees.Entry) → place_in self.now place.new ≡ spec.past_groups (view_groups groups.now.items bare) (place_in self.now place.old)) }
     {
         collect!(self.alloc; bodies: group in groups => nodes: self.region(&group.rows, place) => {

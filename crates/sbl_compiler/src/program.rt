@@ -6,6 +6,7 @@ ghost use Rattle.sbl_ast.specs.View.{view_items, view_plain, view_row};
 ghost use Rattle.sbl_semantics.specs.Items.{known_in};
 ghost use Rattle.sbl_ast.specs.declared.tree.DeclarationKind.TheVariants as kinds;
 ghost use Rattle.sbl_compiler.specs.NumberedItems as spec;
+ghost use Rattle.sbl_compiler.specs.NumberedItems.{program_by, with_routine};
 ghost use Rattle.sbl_program.specs.FoundView.{strings_at};
 ghost use Rattle.sbl_compiler.specs.NumberedView.{at_start, names_in, place_in, routine_in, routines_in, view_found, view_names};
 ghost use Rattle.sbl_program.specs.ProgramOf.{program_of};
@@ -44,7 +45,7 @@ impl Compiler<'_> {
         place: &mut CommandPosition,
         routines: &mut Vec<Routine>,
     ) -> CompileResult<()>
-        ensures made { OnOk result (routines_in self.now routines.new.items ≡ spec.with_routine (names_in self.now) (view_plain plain.now) (place_in self.now place.old) (routines_in self.now routines.old.items)) }
+        ensures made { OnOk result (routines_in self.now routines.new.items ≡ with_routine (names_in self.now) (view_plain plain.now) (place_in self.now place.old) (routines_in self.now routines.old.items)) }
         ensures following { OnOk result (place_in self.now place.new ≡ spec.past_plain (view_plain plain.now) (place_in self.now place.old)) }
     {
         if let Plain::Routine { name: _, body } = plain {
@@ -70,7 +71,7 @@ impl Compiler<'_> {
     }
 
     fn program_by(&self, items: &[ItemInMode], external: &str) -> CompileResult<Program>
-        ensures { IfOk result (λ p. program_of (strings_at self.now.amongs.now.items) p ≡ spec.program_by (names_in self.now) (map view_in_mode items.now) (map view_found self.now.amongs.now.items) external.now) }
+        ensures { IfOk result (λ p. program_of (strings_at self.now.amongs.now.items) p ≡ program_by (names_in self.now) (map view_in_mode items.now) (map view_found self.now.amongs.now.items) external.now) }
     {
         let groupings = self.numbered_classes(items)?;
         let routines = self.routines_of(items)?;
@@ -106,7 +107,7 @@ fn compile_named(
     items: &[ItemInMode],
     external: &str,
 ) -> Result<Compilation, AllocError>
-    ensures program { IfOk result (λ n. program_of (strings_at n.amongs.items) n.program ≡ spec.program_by (view_names names) (map view_in_mode items.now) (map view_found amongs.items) external.now) }
+    ensures program { IfOk result (λ n. program_of (strings_at n.amongs.items) n.program ≡ program_by (view_names names) (map view_in_mode items.now) (map view_found amongs.items) external.now) }
     ensures routines { IfOk result (λ n. map string_bytes n.routines.items ≡ names.routines) }
     ensures groupings { IfOk result (λ n. map string_bytes n.groupings.items ≡ names.groupings) }
 {

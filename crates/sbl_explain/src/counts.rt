@@ -5,7 +5,7 @@ ghost use Rattle.csv.specs.Records.{fields_of, partial_of};
 ghost use Rattle.sbl_bench.specs.KeptRuns.{setting_of};
 ghost use Rattle.sbl_explain.specs.Counts as spec;
 ghost use Rattle.sbl_explain.specs.TakeNumbers.{KeepsNumbers};
-ghost use Rattle.sbl_explain.specs.UsableViews.{AreDefined, Defines, next_row, number_for, number_row, number_rows, row_for, rows_text, view_usable, view_usables};
+ghost use Rattle.sbl_explain.specs.UsableViews.{AreDefined, Defines, next_row, number_for, number_row, number_rows as rows_in, row_for, rows_text, view_usable, view_usables};
 ghost use Rattle.sbl_explain.specs.Kept.{KeepsWords};
 
 use crate::kept_takes::KeptTakes;
@@ -86,7 +86,7 @@ fn push_count<'a>(
     taken: &TakeCounts<'a>,
     usable: &Usable<'a>,
 ) -> Result<(), AllocError>
-    ensures { Defines bench.now (view_usable usable.now) → KeepsNumbers bench.now taken.now → OnOk result (number_rows counts.new.items ≡ number_rows counts.old.items ++ next_row bench.now usable.now ∷ []) }
+    ensures { Defines bench.now (view_usable usable.now) → KeepsNumbers bench.now taken.now → OnOk result (rows_in counts.new.items ≡ rows_in counts.old.items ++ next_row bench.now usable.now ∷ []) }
 {
     let words = number_using(alloc, bench, taken, usable)?;
     counts.push(Count {
@@ -103,7 +103,7 @@ fn counts_of<'a>(
     taken: &TakeCounts<'a>,
     usables: &[Usable<'a>],
 ) -> Result<Vec<Count<'a>>, AllocError>
-    ensures { AreDefined bench.now (view_usables usables.now) → KeepsNumbers bench.now taken.now → IfOk result (λ counts. number_rows counts.items ≡ map (row_for bench.now) (view_usables usables.now)) }
+    ensures { AreDefined bench.now (view_usables usables.now) → KeepsNumbers bench.now taken.now → IfOk result (λ counts. rows_in counts.items ≡ map (row_for bench.now) (view_usables usables.now)) }
 {
     let mut counts = Vec::with_capacity(alloc, usables.len())?;
     for usable in usables {

@@ -91,7 +91,7 @@ fn push_unmet<'a, T: Report>(
     met: &BTreeSet<ItemRef<'a>>,
     item: &ItemRef<'a>,
 ) -> Result<(), AllocError>
-    ensures { (s : Setting) (words : Words) → HasMet s words met.now → OnOk result (TakesRows T.has_taken out.old out.new (spec.item_rows s words (item_of_ref item.now))) }
+    ensures { (s : Setting) (ws : Words) → HasMet s ws met.now → OnOk result (TakesRows T.has_taken out.old out.new (spec.item_rows s ws (item_of_ref item.now))) }
 {
     if has_item(met, item) {
         Ok(())
@@ -108,7 +108,7 @@ fn push_untaken<'a, T: Report>(
     among: &ItemRef<'a>,
     string: &[char],
 ) -> Result<(), AllocError>
-    ensures { (s : Setting) (words : Words) → HasTaken s words taken.now → OnOk result (TakesRows T.has_taken out.old out.new (spec.string_rows s words (item_of_ref among.now, string.now))) }
+    ensures { (s : Setting) (ws : Words) → HasTaken s ws taken.now → OnOk result (TakesRows T.has_taken out.old out.new (spec.string_rows s ws (item_of_ref among.now, string.now))) }
 {
     if has_take(alloc, taken, among, string)? {
         Ok(())
@@ -125,7 +125,7 @@ fn push_strings<'a, T: Report>(
     among: &ItemRef<'a>,
     strings: &[&[char]],
 ) -> Result<(), AllocError>
-    ensures { (s : Setting) (words : Words) → HasTaken s words taken.now → OnOk result (TakesRows T.has_taken out.old out.new (spec.untaken_rows s words (item_of_ref among.now) (texts_of strings.now))) }
+    ensures { (s : Setting) (ws : Words) → HasTaken s ws taken.now → OnOk result (TakesRows T.has_taken out.old out.new (spec.untaken_rows s ws (item_of_ref among.now) (texts_of strings.now))) }
 {
     for string in strings {
         push_untaken(alloc, out, taken, among, string)?;
@@ -140,7 +140,7 @@ fn push_items<'a, T: Report>(
     met: &BTreeSet<ItemRef<'a>>,
     parts: &Parts<'a>,
 ) -> Result<(), AllocError>
-    ensures { (s : Setting) (words : Words) → HasMet s words met.now → OnOk result (TakesRows T.has_taken out.old out.new (spec.unmet_rows s words (parts_in parts.now))) }
+    ensures { (s : Setting) (ws : Words) → HasMet s ws met.now → OnOk result (TakesRows T.has_taken out.old out.new (spec.unmet_rows s ws (parts_in parts.now))) }
 {
     for (item, _) in parts.iter() {
         push_unmet(alloc, out, met, item)?;
@@ -157,7 +157,7 @@ fn push_part<'a, T: Report>(
     item: &ItemRef<'a>,
     strings: &[&[char]],
 ) -> Result<(), AllocError>
-    ensures { (s : Setting) (words : Words) → HasMet s words met.now → HasTaken s words taken.now → OnOk result (TakesRows T.has_taken out.old out.new (spec.entry_rows s words (part_of item.now strings.now))) }
+    ensures { (s : Setting) (ws : Words) → HasMet s ws met.now → HasTaken s ws taken.now → OnOk result (TakesRows T.has_taken out.old out.new (spec.entry_rows s ws (part_of item.now strings.now))) }
 {
     if !has_item(met, item) {
         return Ok(());
@@ -173,7 +173,7 @@ fn push_entries<'a, T: Report>(
     taken: &Takes<'a>,
     parts: &Parts<'a>,
 ) -> Result<(), AllocError>
-    ensures { (s : Setting) (words : Words) → HasMet s words met.now → HasTaken s words taken.now → OnOk result (TakesRows T.has_taken out.old out.new (flat_map (spec.entry_rows s words) (parts_in parts.now))) }
+    ensures { (s : Setting) (ws : Words) → HasMet s ws met.now → HasTaken s ws taken.now → OnOk result (TakesRows T.has_taken out.old out.new (flat_map (spec.entry_rows s ws) (parts_in parts.now))) }
 {
     for (item, strings) in parts.iter() {
         push_part(alloc, out, met, taken, item, strings)?;
@@ -189,7 +189,7 @@ fn push_rows<'a, T: Report>(
     taken: &Takes<'a>,
     parts: &Parts<'a>,
 ) -> Result<(), AllocError>
-    ensures { (s : Setting) (words : Words) → HasMet s words met.now → HasTaken s words taken.now → OnOk result (TakesRows T.has_taken out.old out.new (spec.rows_of_parts s words (parts_in parts.now))) }
+    ensures { (s : Setting) (ws : Words) → HasMet s ws met.now → HasTaken s ws taken.now → OnOk result (TakesRows T.has_taken out.old out.new (spec.rows_of_parts s ws (parts_in parts.now))) }
 {
     push_items(alloc, out, met, parts)?;
     push_entries(alloc, out, met, taken, parts)
@@ -202,7 +202,7 @@ fn text_of_rows<'a>(
     taken: &Takes<'a>,
     parts: &Parts<'a>,
 ) -> Result<Vec<u8>, AllocError>
-    ensures { (s : Setting) (words : Words) → HasMet s words met.now → HasTaken s words taken.now → IfOk result (λ text. text.items ≡ parts_text s words (parts_in parts.now)) }
+    ensures { (s : Setting) (ws : Words) → HasMet s ws met.now → HasTaken s ws taken.now → IfOk result (λ text. text.items ≡ parts_text s ws (parts_in parts.now)) }
 {
     let mut length = ReportLength::new();
     push_rows(alloc, &mut length, met, taken, parts)?;

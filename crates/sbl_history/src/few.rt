@@ -18,7 +18,7 @@ pub fn changes_of_few<'a>(
     before: &[Row<'a>],
     after: &[Row<'a>],
 ) -> Result<Vec<ChangeRow<'a>>, AllocError>
-    ensures { (s : Setting) (words : List (List ℕ)) → view_rows after.now ≡ rows_of s words → IfOk result (λ changes. view_changes changes.items ≡ changes_of (view_rows before.now) (view_rows after.now)) }
+    ensures { (s : Setting) (words : List (List ℕ)) → view_rows after.now ≡ rows_of s words → IfOk result (λ c. view_changes c.items ≡ changes_of (view_rows before.now) (view_rows after.now)) }
 {
     let mut words = TextSet::new(alloc)?;
     let mut stems = TextSet::new(alloc)?;

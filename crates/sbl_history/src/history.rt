@@ -1,8 +1,8 @@
 //! The edits that can be undone and redone.
 ghost use Rattle.std.specs.Prelude.{◌≡◌, ◌≤◌, ◌<◌, ◌+◌, ◌-◌, ◌++◌, ◌∷◌, [], Some, drop, length, map, IfErr, IfOk, OnOk, OnErr, vec_len, vec_capacity};
 ghost use Rattle.sbl_bench.specs.BreakingOff.{BreaksIfTold};
-ghost use Rattle.sbl_bench.specs.KeptRuns.{contents_of};
-ghost use Rattle.sbl_history.specs.Desks.{TurnBreaksIfTold, back, past_of, text_after, text_in, view_edit, view_edits, view_step, view_text};
+ghost use Rattle.sbl_bench.specs.KeptRuns.{contents_of as contents};
+ghost use Rattle.sbl_history.specs.Desks.{TurnBreaksIfTold, back, past_of, text_after, text_in, view_edit, view_step as turn_of, view_text};
 ghost use Rattle.sbl_history.specs.inside.HeldTurns.{TurnsHeld};
 ghost use Rattle.sbl_history.specs.MayBreak.{EditsOrBreaksIf};
 ghost use Rattle.sbl_history.specs.History.{ToLimit, ToText, edit_of, latest, remember_edit};
@@ -118,8 +118,8 @@ fn exchange<B: BreakOff>(
     may_break: bool,
     break_off: &mut B,
 ) -> Result<(), EditFault>
-    ensures edits { EditsOrBreaksIf may_break result (contents_of bench.old) (edit_of (view_step step.old)) (contents_of bench.new) }
-    ensures exchanged { OnOk result ((view_step step.new ≡ back (contents_of bench.old) (view_text text.old) (view_step step.old)) × (view_text text.new ≡ text_after (view_text text.old) (view_step step.old))) }
+    ensures edits { EditsOrBreaksIf may_break result (contents bench.old) (edit_of (turn_of step.old)) (contents bench.new) }
+    ensures exchanged { OnOk result ((turn_of step.new ≡ back (contents bench.old) (view_text text.old) (turn_of step.old)) × (view_text text.new ≡ text_after (view_text text.old) (turn_of step.old))) }
     ensures kept { OnErr result ((step.new ≡ step.old) × (text.new ≡ text.old)) }
     ensures untold { OnOk result (B.said break_off.new ≡ B.said break_off.old) }
     ensures told { IfErr result (λ f. BreaksIfTold (B.said break_off.old) (B.said break_off.new) f) }
@@ -140,8 +140,8 @@ fn exchange_text<B: BreakOff>(
     may_break: bool,
     break_off: &mut B,
 ) -> Result<(), EditFault>
-    ensures edits { EditsOrBreaksIf may_break result (contents_of bench.old) (edit_of (ToText other.old.items)) (contents_of bench.new) }
-    ensures exchanged { OnOk result ((other.new.items ≡ text_in (contents_of bench.old) (view_text text.old)) × (view_text text.new ≡ Some other.old.items)) }
+    ensures edits { EditsOrBreaksIf may_break result (contents bench.old) (edit_of (ToText other.old.items)) (contents bench.new) }
+    ensures exchanged { OnOk result ((other.new.items ≡ text_in (contents bench.old) (view_text text.old)) × (view_text text.new ≡ Some other.old.items)) }
     ensures kept { OnErr result ((other.new ≡ other.old) × (text.new ≡ text.old)) }
     ensures untold { OnOk result (B.said break_off.new ≡ B.said break_off.old) }
     ensures told { IfErr result (λ f. BreaksIfTold (B.said break_off.old) (B.said break_off.new) f) }
@@ -159,8 +159,8 @@ fn exchange_limit<B: BreakOff>(
     may_break: bool,
     break_off: &mut B,
 ) -> Result<(), EditFault>
-    ensures edits { EditsOrBreaksIf may_break result (contents_of bench.old) (edit_of (ToLimit limit.old)) (contents_of bench.new) }
-    ensures exchanged { OnOk result (limit.new ≡ (contents_of bench.old).setting.limit) }
+    ensures edits { EditsOrBreaksIf may_break result (contents bench.old) (edit_of (ToLimit limit.old)) (contents bench.new) }
+    ensures exchanged { OnOk result (limit.new ≡ (contents bench.old).setting.limit) }
     ensures kept { OnErr result (limit.new ≡ limit.old) }
     ensures untold { OnOk result (B.said break_off.new ≡ B.said break_off.old) }
     ensures told { IfErr result (λ f. BreaksIfTold (B.said break_off.old) (B.said break_off.new) f) }
@@ -177,7 +177,7 @@ pub(crate) fn text_of(
     bench: &Bench,
     text: &Option<Vec<u8>>,
 ) -> Result<Vec<u8>, AllocError>
-    ensures { IfOk result (λ t. t.items ≡ text_in (contents_of bench.now) (view_text text.now)) }
+    ensures { IfOk result (λ t. t.items ≡ text_in (contents bench.now) (view_text text.now)) }
 {
     match text {
         Some(text) => Vec::from_slice(alloc, text),

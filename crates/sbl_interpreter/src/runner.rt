@@ -1,14 +1,14 @@
 //! Runs code.
 
 ghost use Rattle.std.specs.Prelude.{◌<◌, ◌≤◌, IfOk};
-ghost use Rattle.sbl_program.specs.ProgramOf.{program_of, view_number};
+ghost use Rattle.sbl_program.specs.ProgramOf.{view_number};
 ghost use Rattle.sbl_run_state.specs.Endings.{Follows, Leads};
 ghost use Rattle.sbl_program.specs.Rows.{pays};
 ghost use Rattle.sbl_program.specs.Run.{calls};
 ghost use Rattle.sbl_semantics.specs.State.{pay, then_on};
 ghost use Rattle.sbl_code.specs.Slots.{no_cursors};
 ghost use Rattle.sbl_code.specs.Flow.{flow, loop_of, at_least_of, turns_of, seek_of, backwards_of, limited_of};
-ghost use Rattle.sbl_interpreter.specs.Inner.{alone_in, inner_of};
+ghost use Rattle.sbl_interpreter.specs.Inner.{alone_in, inner_of, program_in};
 
 mod searching;
 
@@ -45,7 +45,7 @@ impl<'a, T: Tables> Runner<'a, T> {
     #[cycle(run)]
     #[inline(never)]
     fn run_from(&self, entry: &Instruction, state: &mut State) -> Result<bool, Halt>
-        ensures follows { Follows result state.new (flow (program_of (T.listed self.now.tables.now) self.now.code.now) self.now.levels (T.listed self.now.tables.now) entry.now self.now.mode no_cursors state.old) }
+        ensures follows { Follows result state.new (flow (program_in T.listed self.now) self.now.levels (T.listed self.now.tables.now) entry.now self.now.mode no_cursors state.old) }
         ensures no_more { IfOk result (λ _. state.new.steps ≤ state.old.steps) }
     {
         let mut slots = SavedCursors::new();
@@ -273,7 +273,7 @@ impl<'a, T: Tables> Runner<'a, T> {
     #[cycle(run)]
     #[inline(always)]
     fn run_inner(&self, at: &Instruction, state: &mut State) -> Result<bool, Halt>
-        ensures follows { Follows result state.new (inner_of (program_of (T.listed self.now.tables.now) self.now.code.now) self.now.levels (T.listed self.now.tables.now) at.now self.now.mode state.old) }
+        ensures follows { Follows result state.new (inner_of (program_in T.listed self.now) self.now.levels (T.listed self.now.tables.now) at.now self.now.mode state.old) }
         ensures no_more { IfOk result (λ _. state.new.steps ≤ state.old.steps) }
     {
         match at {
@@ -430,7 +430,7 @@ impl<'a, T: Tables> Runner<'a, T> {
     #[cycle(run)]
     #[inline(always)]
     pub fn run_call(&self, number: usize, state: &mut State) -> Result<bool, Halt>
-        ensures follows { Follows result state.new (calls (program_of (T.listed self.now.tables.now) self.now.code.now) self.now.levels number self.now.mode state.old) }
+        ensures follows { Follows result state.new (calls (program_in T.listed self.now) self.now.levels number self.now.mode state.old) }
         ensures no_more { IfOk result (λ _. state.new.steps ≤ state.old.steps) }
     {
         if self.levels == 0 {

@@ -16,7 +16,7 @@ ghost use Rattle.sbl_semantics.specs.TouchedItems.{item_of, items_in, items_of, 
 ghost use Rattle.sbl_machine.specs.ItemRefs.{items_of_refs};
 ghost use Rattle.sbl_machine.specs.inside.LastTouches.{touched_in};
 ghost use Rattle.sbl_ast.specs.Source.{Source};
-ghost use Rattle.sbl_script.specs.ParsedScript.{source_of};
+ghost use Rattle.sbl_script.specs.ParsedScript.{source_of as source};
 ghost use Rattle.sbl_semantics.specs.State.{Ending};
 ghost use Rattle.sbl_semantics.specs.Events.{event_of, view_events};
 
@@ -54,7 +54,7 @@ impl<S: AmongSearch> Machine<S> {
     ///
     /// Returns `AllocError` if an allocation fails.
     pub fn new(alloc: Global, script: &Script) -> Result<Machine<S>, AllocError>
-        ensures { IfOk result (λ m. IsMachineOf S S.entries S.mode m (source_of script.now)) }
+        ensures { IfOk result (λ m. IsMachineOf S S.entries S.mode m (source script.now)) }
     {
         let Compilation {
             program,
@@ -218,7 +218,7 @@ impl<S: AmongSearch> Machine<S> {
         script: &Script,
         items: &[Item],
     ) -> Result<TouchLog, AllocError>
-        ensures { IsMachineOf S S.entries S.mode self.now (source_of script.now) → Defines (source_of script.now) (map item_of items.now) → IfOk result (AreMarksOf (source_of script.now) (map item_of items.now)) }
+        ensures { IsMachineOf S S.entries S.mode self.now (source script.now) → Defines (source script.now) (map item_of items.now) → IfOk result (AreMarksOf (source script.now) (map item_of items.now)) }
     {
         is_spelled(script);
         marks_of(alloc, &self.names, script.items(), items)

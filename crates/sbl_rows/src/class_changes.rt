@@ -2,6 +2,7 @@
 
 ghost use Rattle.std.specs.Prelude.{◌≡◌, ◌++◌, ◌&&◌, ◌||◌, ℕ, List, IfOk, OnOk, bytes_eq, filter_map, option_map};
 ghost use Rattle.sbl_rows.specs.Changes as spec;
+ghost use Rattle.sbl_rows.specs.Changes.{class_renaming};
 ghost use Rattle.sbl_rows.specs.Classes.{Class};
 ghost use Rattle.sbl_rows.specs.Sides as sides;
 ghost use Rattle.sbl_rows.specs.Views.{has_text, view_change, view_changes, view_stem_class, view_stem_classes};
@@ -103,7 +104,7 @@ pub(crate) fn push_renamed<'a>(
     before: &[StemClass<'a>],
     now: &[StemClass<'a>],
 ) -> Result<(), AllocError>
-    ensures { OnOk result (view_changes changes.new.items ≡ view_changes changes.old.items ++ filter_map (λ c. spec.class_renaming (view_stem_classes now.now) c c.members) (view_stem_classes before.now)) }
+    ensures { OnOk result (view_changes changes.new.items ≡ view_changes changes.old.items ++ filter_map (λ c. class_renaming (view_stem_classes now.now) c c.members) (view_stem_classes before.now)) }
 {
     let from_one = stems_from_one(alloc, now)?;
     for class in before {

@@ -7,13 +7,14 @@ ghost use Rattle.sbl_parser.specs.Reading.{IsReadAs};
 ghost use Rattle.sbl_ast.specs.Texts as texts;
 ghost use Rattle.sbl_ast.specs.View.{view_among, view_argument, view_items, view_plain, view_row, view_term};
 ghost use Rattle.sbl_ast.specs.Counts.{count_in_among};
-ghost use Rattle.sbl_resolver.specs.Checks.{WellDeclared, fault_of};
+ghost use Rattle.sbl_resolver.specs.Checks.{WellDeclared, fault_of as fault};
 ghost use Rattle.sbl_script.specs.SpelledScript.{AreSpelled, IsSpelled};
 ghost use Rattle.sbl_text.specs.Directives.{start, Directives};
 ghost use Rattle.sbl_text.specs.SpacedTokens.{after_all};
 ghost use Rattle.sbl_text.specs.Tokens.{MayEnd, placed_of};
 ghost use Rattle.sbl_script.specs.ParsedScript.{source_of};
 ghost use Rattle.sbl_script.specs.Reading as spec;
+ghost use Rattle.sbl_text.specs.declared.fault.ScriptFault.TheVariants.{OutOfMemory};
 
 use crate::edit_fault::EditFault;
 use crate::edits;
@@ -63,7 +64,7 @@ fn text_of(bytes: &[u8]) -> Result<&str, ScriptFault>
 fn tree_of(alloc: Global, tokens: &[Token], end: usize) -> Result<Vec<ScriptItem>, ScriptFault>
     ensures offered { IfOk result (λ items. spec.first_left_out (map placed_of tokens.now) ≡ None) }
     ensures tree { IfOk result (λ items. IsReadAs texts.script (spec.lexemes (map placed_of tokens.now)) (view_items items.items)) }
-    ensures fault { IfErr result (λ f. (f ≡ ScriptFault.OutOfMemory) ⊎ spec.IsUnread texts.script (map placed_of tokens.now) end f) }
+    ensures fault { IfErr result (λ f. (f ≡ OutOfMemory) ⊎ spec.IsUnread texts.script (map placed_of tokens.now) end f) }
 {
     if let Some(place) = first_left_out(tokens) {
         return Err(ScriptFault::OutOfProfile { place });
@@ -75,7 +76,7 @@ fn tree_of(alloc: Global, tokens: &[Token], end: usize) -> Result<Vec<ScriptItem
 fn body_of_tokens(alloc: Global, tokens: &[Token], end: usize) -> Result<RowOfCommands, ScriptFault>
     ensures offered { IfOk result (λ row. spec.first_left_out (map placed_of tokens.now) ≡ None) }
     ensures tree { IfOk result (λ row. IsReadAs texts.body (spec.lexemes (map placed_of tokens.now)) (view_row row)) }
-    ensures fault { IfErr result (λ f. (f ≡ ScriptFault.OutOfMemory) ⊎ spec.IsUnread texts.body (map placed_of tokens.now) end f) }
+    ensures fault { IfErr result (λ f. (f ≡ OutOfMemory) ⊎ spec.IsUnread texts.body (map placed_of tokens.now) end f) }
 {
     if let Some(place) = first_left_out(tokens) {
         return Err(ScriptFault::OutOfProfile { place });
@@ -94,7 +95,7 @@ fn among_of_tokens(
     ensures offered { IfOk result (λ a. spec.first_left_out (map placed_of tokens.now) ≡ None) }
     ensures tree { IfOk result (λ a. IsReadAs (texts.among depth) (spec.lexemes (map placed_of tokens.now)) (view_among a)) }
     ensures few { IfOk result (λ a. count_in_among (view_among a) ≤ length tokens.now) }
-    ensures fault { IfErr result (λ f. (f ≡ ScriptFault.OutOfMemory) ⊎ spec.IsUnread (texts.among depth) (map placed_of tokens.now) end f) }
+    ensures fault { IfErr result (λ f. (f ≡ OutOfMemory) ⊎ spec.IsUnread (texts.among depth) (map placed_of tokens.now) end f) }
 {
     if let Some(place) = first_left_out(tokens) {
         return Err(ScriptFault::OutOfProfile { place });
@@ -110,7 +111,7 @@ fn terms_of_tokens(
 ) -> Result<(Argument, Vec<Term>), ScriptFault>
     ensures offered { IfOk result (λ x. spec.first_left_out (map placed_of tokens.now) ≡ None) }
     ensures tree { IfOk result (λ x. IsReadAs texts.terms (spec.lexemes (map placed_of tokens.now)) (view_argument x.0, map view_term x.1.items)) }
-    ensures fault { IfErr result (λ f. (f ≡ ScriptFault.OutOfMemory) ⊎ spec.IsUnread texts.terms (map placed_of tokens.now) end f) }
+    ensures fault { IfErr result (λ f. (f ≡ OutOfMemory) ⊎ spec.IsUnread texts.terms (map placed_of tokens.now) end f) }
 {
     if let Some(place) = first_left_out(tokens) {
         return Err(ScriptFault::OutOfProfile { place });
@@ -165,7 +166,7 @@ impl Script {
         requires spelled { AreSpelled (view_items items.items) }
         ensures tree { IfOk result (λ s. source_of s ≡ record { items = view_items items.items; external = external.now }) }
         ensures well_declared { IfOk result (λ s. WellDeclared (view_items items.items) external.now) }
-        ensures fault { IfErr result (λ f. (f ≡ ScriptFault.OutOfMemory) ⊎ (fault_of (view_items items.items) external.now ≡ Some f)) }
+        ensures fault { IfErr result (λ f. (f ≡ OutOfMemory) ⊎ (fault (view_items items.items) external.now ≡ Some f)) }
     {
         check(alloc, &items, external)?;
         let external = String::from_str(alloc, external)?;
@@ -180,7 +181,7 @@ impl Script {
     /// fails. Returns `OutOfMemory` if an allocation fails.
     pub fn parse(alloc: Global, bytes: &[u8], external: &str) -> Result<Script, ScriptFault>
         ensures script { IfOk result (λ s. spec.IsScriptOf bytes.now external.now (source_of s)) }
-        ensures fault { IfErr result (λ f. (f ≡ ScriptFault.OutOfMemory) ⊎ spec.IsFaultOf bytes.now external.now f) }
+        ensures fault { IfErr result (λ f. (f ≡ OutOfMemory) ⊎ spec.IsFaultOf bytes.now external.now f) }
     {
         let text = text_of(bytes)?;
         let found = tokens(alloc, text)?;
@@ -311,7 +312,7 @@ impl Script {
         text: &'a str,
     ) -> Result<Vec<Token<'a>>, ScriptFault>
         ensures tokens { IfOk result (λ ts. HasTokens (state_reached (changes (view_part part.entry)) (source_of self.now).items) text.now (map placed_of ts.items)) }
-        ensures fault { IfErr result (λ f. (f ≡ ScriptFault.OutOfMemory) ⊎ spec.IsTextFault (state_reached (changes (view_part part.entry)) (source_of self.now).items) text.now f) }
+        ensures fault { IfErr result (λ f. (f ≡ OutOfMemory) ⊎ spec.IsTextFault (state_reached (changes (view_part part.entry)) (source_of self.now).items) text.now f) }
     {
         let text = text_of(text.as_bytes())?;
         let escapes = escapes_before(alloc, &self.items, part)?;
@@ -332,7 +333,7 @@ impl Script {
         ensures items { IfOk result (λ s. (source_of s).items ≡ items_with (changes (view_part part.entry)) (view_plain new) (source_of self.now).items) }
         ensures external { IfOk result (λ s. (source_of s).external ≡ (source_of self.now).external) }
         ensures well_declared { IfOk result (λ s. WellDeclared (source_of s).items (source_of s).external) }
-        ensures fault { IfErr result (λ f. (f ≡ ScriptFault.OutOfMemory) ⊎ (fault_of (items_with (changes (view_part part.entry)) (view_plain new) (source_of self.now).items) (source_of self.now).external ≡ Some f)) }
+        ensures fault { IfErr result (λ f. (f ≡ OutOfMemory) ⊎ (fault (items_with (changes (view_part part.entry)) (view_plain new) (source_of self.now).items) (source_of self.now).external ≡ Some f)) }
     {
         let script = self.with_plain(alloc, part, &new);
         drop(new);
@@ -347,7 +348,7 @@ impl Script {
         ensures items { IfOk result (λ s. (source_of s).items ≡ items_with (changes (view_part part.entry)) (view_plain new.now) (source_of self.now).items) }
         ensures external { IfOk result (λ s. (source_of s).external ≡ (source_of self.now).external) }
         ensures well_declared { IfOk result (λ s. WellDeclared (source_of s).items (source_of s).external) }
-        ensures fault { IfErr result (λ f. (f ≡ ScriptFault.OutOfMemory) ⊎ (fault_of (items_with (changes (view_part part.entry)) (view_plain new.now) (source_of self.now).items) (source_of self.now).external ≡ Some f)) }
+        ensures fault { IfErr result (λ f. (f ≡ OutOfMemory) ⊎ (fault (items_with (changes (view_part part.entry)) (view_plain new.now) (source_of self.now).items) (source_of self.now).external ≡ Some f)) }
     {
         let items = items_with(alloc, &self.items, part, new)?;
         Script::check_tree(alloc, items, self.external())

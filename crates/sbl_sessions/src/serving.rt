@@ -142,7 +142,7 @@ pub fn serve<R: Source + Drop, W: Sink>(
     ensures whole { OnOk result (IsAtEnd (input_of R.left lines.new)) }
     ensures drained { result ≡ Err ServeFault.Read → fault_of lines.old ≡ None → IsDrained lines.new }
     ensures remembered { fault_of lines.new ≡ left_by result }
-    ensures again { (fault : LineFault) → fault_of lines.old ≡ Some fault → ReturnsAgain fault (moment R.left W.held lines.old writer.old bench.old) (moment R.left W.held lines.new writer.new bench.new) result }
+    ensures again { (f : LineFault) → fault_of lines.old ≡ Some f → ReturnsAgain f (moment R.left W.held lines.old writer.old bench.old) (moment R.left W.held lines.new writer.new bench.new) result }
     ensures bound { reads_bound R.tally lines.new ≡ reads_bound R.tally lines.old }
     ensures reads_in_time { KeepsTime R.tally lines.old lines.new }
     ensures writes_in_time { WritesInTime W.tally writer.old writer.new }
@@ -164,7 +164,7 @@ pub fn serve_watched<R: Source + Drop, W: Sink, S: Watch>(
     ensures whole { OnOk result (IsAtEnd (input_of R.left lines.new)) }
     ensures drained { result ≡ Err ServeFault.Read → fault_of lines.old ≡ None → IsDrained lines.new }
     ensures remembered { fault_of lines.new ≡ left_by result }
-    ensures again { (fault : LineFault) → fault_of lines.old ≡ Some fault → ReturnsAgain fault (moment R.left W.held lines.old writer.old bench.old) (moment R.left W.held lines.new writer.new bench.new) result }
+    ensures again { (f : LineFault) → fault_of lines.old ≡ Some f → ReturnsAgain f (moment R.left W.held lines.old writer.old bench.old) (moment R.left W.held lines.new writer.new bench.new) result }
     ensures bound { reads_bound R.tally lines.new ≡ reads_bound R.tally lines.old }
     ensures reads_in_time { KeepsTime R.tally lines.old lines.new }
     ensures writes_in_time { WritesInTime W.tally writer.old writer.new }

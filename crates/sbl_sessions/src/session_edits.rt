@@ -96,8 +96,8 @@ pub(crate) fn edit_script(
     kept: Result<Option<String>, AllocError>,
     block: BlockText,
 ) -> EditReply
-    ensures { (line : List ℕ) (lines : List (List ℕ)) → KeepsLine kept line → HoldsText block lines
-        → IsTextAnswer (contents_of bench.old) (block_command line lines) result.text.now (contents_of bench.new) }
+    ensures { (line : List ℕ) (ls : List (List ℕ)) → KeepsLine kept line → HoldsText block ls
+        → IsTextAnswer (contents_of bench.old) (block_command line ls) result.text.now (contents_of bench.new) }
 {
     match kept {
         Ok(Some(line)) => edit_named(bench, line, block),
@@ -107,8 +107,8 @@ pub(crate) fn edit_script(
 }
 
 fn edit_named(bench: &mut Bench, line: String, block: BlockText) -> EditReply
-    ensures { (lines : List (List ℕ)) → HoldsText block lines
-        → IsTextAnswer (contents_of bench.old) (block_command (string_bytes line) lines) result.text.now (contents_of bench.new) }
+    ensures { (ls : List (List ℕ)) → HoldsText block ls
+        → IsTextAnswer (contents_of bench.old) (block_command (string_bytes line) ls) result.text.now (contents_of bench.new) }
 {
     let Some(part) = part_of(line.as_str()) else {
         return EditReply::of_text(BAD_COMMAND);

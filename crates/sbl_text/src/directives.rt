@@ -6,6 +6,7 @@ ghost use Rattle.sbl_token.specs.Lexemes.{characters_in, inserts_in};
 ghost use Rattle.sbl_text.specs.Codes.{GivesCharacters};
 ghost use Rattle.sbl_text.specs.Escapes.{with_inserts};
 ghost use Rattle.sbl_text.specs.Directives as spec;
+ghost use Rattle.sbl_text.specs.Directives.{with_coding};
 ghost use Rattle.sbl_text.specs.inside.DirectiveParts as parts;
 
 use crate::codes::{Characters, MAX_DECIMAL_DIGITS, MAX_HEX_DIGITS, codes};
@@ -49,7 +50,7 @@ impl<'a> Model for Directives<'a> {
 }
 
 fn with_coding<'a>(defining: Option<Defining<'a>>, coding: Coding) -> Option<Defining<'a>>
-    ensures { option_map (λ d. record { name = chars d.name.now; coding = d.coding }) result ≡ spec.with_coding (option_map (λ d. record { name = chars d.name.now; coding = d.coding }) defining.entry) coding }
+    ensures { option_map (λ d. record { name = chars d.name.now; coding = d.coding }) result ≡ with_coding (option_map (λ d. record { name = chars d.name.now; coding = d.coding }) defining.entry) coding }
 {
     match defining {
         Some(

@@ -9,6 +9,7 @@ ghost use Rattle.sbl_text.specs.Tokens.{Comes, Reading, Stops};
 ghost use Rattle.std.specs.List.{All};
 ghost use Rattle.sbl_token.specs.Lexemes.{lexeme_of, SaysFitting};
 ghost use Rattle.sbl_text.specs.Directives.{setting_of, start_under};
+ghost use Rattle.sbl_text.specs.declared.fault.ScriptFault.TheVariants.{OutOfMemory};
 
 use crate::directives::Directives;
 use crate::escapes::Escapes;
@@ -54,7 +55,7 @@ fn token_after<'a>(
     from: &'a str,
 ) -> Result<(Option<Token<'a>>, &'a str), ScriptFault>
     requires { (x : List ℕ) × (chars source.now ≡ x ++ chars from.now) }
-    ensures { MatchResult result (λ p. Comes (chars source.now) state.now (chars from.now) (chars p.1.now) p.0) (λ f. (f ≡ ScriptFault.OutOfMemory) ⊎ Stops (chars source.now) state.now (chars from.now) f) }
+    ensures { MatchResult result (λ p. Comes (chars source.now) state.now (chars from.now) (chars p.1.now) p.0) (λ f. (f ≡ OutOfMemory) ⊎ Stops (chars source.now) state.now (chars from.now) f) }
 {
     let (at, found) = cut_after(state, from);
     let start = place_of(source, at);
@@ -100,7 +101,7 @@ impl<'a> Lexer<'a> {
         escapes: &Escapes,
     ) -> Result<Lexer<'a>, ScriptFault>
         ensures lexer { IfOk result (λ l. l ≡ spec.beginning (start_under escapes.now) (chars text.now)) }
-        ensures fault { IfErr result (λ f. f ≡ ScriptFault.OutOfMemory) }
+        ensures fault { IfErr result (λ f. f ≡ OutOfMemory) }
     {
         Ok(Lexer::under(alloc, text, escapes.copy()?))
     }
@@ -178,7 +179,7 @@ pub fn tokens<'a>(alloc: Global, text: &'a str) -> Result<Vec<Token<'a>>, Script
     ensures fitting { IfOk result (λ ts. All SaysFitting ts.items) }
     ensures all { IfOk result (λ ts. spec.AreTokens (chars text.now) (map lexeme_of ts.items)) }
     ensures placed { IfOk result (λ ts. spec.ArePlaced (chars text.now) (map spec.placed_of ts.items)) }
-    ensures fault { IfErr result (λ f. (f ≡ ScriptFault.OutOfMemory) ⊎ spec.IsFirstFault (chars text.now) f) }
+    ensures fault { IfErr result (λ f. (f ≡ OutOfMemory) ⊎ spec.IsFirstFault (chars text.now) f) }
 {
     tokens_under(alloc, text, Escapes::new(alloc))
 }
@@ -192,7 +193,7 @@ pub fn tokens_under<'a>(
     ensures fitting { IfOk result (λ ts. All SaysFitting ts.items) }
     ensures all { IfOk result (λ ts. spec.AreTokensFrom (start_under escapes) (chars text.now) (map lexeme_of ts.items)) }
     ensures placed { IfOk result (λ ts. spec.ArePlacedFrom (start_under escapes) (chars text.now) (map spec.placed_of ts.items)) }
-    ensures fault { IfErr result (λ f. (f ≡ ScriptFault.OutOfMemory) ⊎ spec.IsFirstFaultFrom (start_under escapes) (chars text.now) f) }
+    ensures fault { IfErr result (λ f. (f ≡ OutOfMemory) ⊎ spec.IsFirstFaultFrom (start_under escapes) (chars text.now) f) }
 {
     let mut lexer = Lexer::under(alloc, text, escapes);
     let mut tokens = Vec::new(alloc);

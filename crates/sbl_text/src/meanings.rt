@@ -4,9 +4,12 @@ ghost use Rattle.std.specs.Prelude.{◌+◌, ◌^◌, length, ◌≡◌, ◌≤�
 ghost use Rattle.std.specs.Str.{chars};
 ghost use Rattle.sbl_text.specs.Pieces as pieces;
 ghost use Rattle.sbl_text.specs.Tokens as spec;
+ghost use Rattle.sbl_text.specs.Tokens.{fault_at};
 ghost use Rattle.sbl_text.specs.inside.TokenParts as parts;
 ghost use Rattle.sbl_token.specs.Lexemes.{fits, lexeme_by};
 ghost use Rattle.sbl_text.specs.Directives as states;
+ghost use Rattle.sbl_text.specs.declared.fault.ScriptFault.TheVariants.{OutOfMemory};
+ghost use Rattle.sbl_text.specs.declared.pieces.Expectation.TheVariants as wants;
 
 use crate::directives::Directives;
 use crate::fault::ScriptFault;
@@ -43,7 +46,7 @@ fn literal<'a>(
 ) -> Result<Value<'a>, ScriptFault>
     requires has { pieces.Has state.now.escapes.inserts Shape.Literal (chars text.now) }
     requires room { place + length text.now < 2 ^ 64 }
-    ensures { MatchResult result (λ v. parts.HasMeaning state.now Shape.Literal Kind.Literal text.now v) (λ f. (f ≡ ScriptFault.OutOfMemory) ⊎ spec.IsRefused state.now Shape.Literal (chars text.now) place f) }
+    ensures { MatchResult result (λ v. parts.HasMeaning state.now Shape.Literal Kind.Literal text.now v) (λ f. (f ≡ OutOfMemory) ⊎ spec.IsRefused state.now Shape.Literal (chars text.now) place f) }
 {
     let spelling = between_quotes(text);
     let letters: Vec<char> = spelling.chars().collect(alloc)?;
@@ -108,7 +111,7 @@ pub fn meaning<'a>(
     requires token { pieces.is_gap shape ≡ false }
     requires has { pieces.Has state.now.escapes.inserts shape (chars text.now) }
     requires room { place + length text.now < 2 ^ 64 }
-    ensures { MatchResult result (λ p. parts.HasMeaning state.now shape p.0 text.now p.1) (λ f. (f ≡ ScriptFault.OutOfMemory) ⊎ spec.IsRefused state.now shape (chars text.now) place f) }
+    ensures { MatchResult result (λ p. parts.HasMeaning state.now shape p.0 text.now p.1) (λ f. (f ≡ OutOfMemory) ⊎ spec.IsRefused state.now shape (chars text.now) place f) }
 {
     match shape {
         Shape::Number => match number(text) {
@@ -159,7 +162,7 @@ fn pair_fault(text: &str, place: usize) -> ScriptFault
 /// does not begin with a piece.
 pub fn end_or_fault(wanted: Expectation, text: &str, place: usize) -> Result<(), ScriptFault>
     requires { place + length text.now < 2 ^ 64 }
-    ensures { MatchResult result (λ _. (chars text.now ≡ []) × (wanted ≡ Expectation.Inserts → ⊥)) (λ f. (chars text.now ≡ [] → wanted ≡ Expectation.Inserts) × (f ≡ spec.fault_at wanted (chars text.now) place)) }
+    ensures { MatchResult result (λ _. (chars text.now ≡ []) × (wanted ≡ wants.Inserts → ⊥)) (λ f. (chars text.now ≡ [] → wanted ≡ wants.Inserts) × (f ≡ fault_at wanted (chars text.now) place)) }
 {
     if wanted == Expectation::Inserts {
         return Err(pair_fault(text, place));

@@ -3,7 +3,7 @@
 ghost use Rattle.std.specs.Prelude.{◌≡◌, ◌≤◌, ◌<◌, length, MatchOption, IfSome, Some, None, Bool, true, false, ◌∷◌, [], List, ℕ};
 ghost use Rattle.std.specs.Str.{chars};
 ghost use Rattle.sbl_text.specs.Pieces as pieces;
-ghost use Rattle.sbl_text.specs.inside.PieceParts as piece_parts;
+ghost use Rattle.sbl_text.specs.inside.PieceParts.{setting};
 ghost use Rattle.sbl_text.specs.Scan as spec;
 
 use crate::classes::{CharKind, is_in, past};
@@ -180,7 +180,7 @@ fn cut_in(inserts: Option<Inserts>, wanted: Expectation, text: &str) -> Option<(
 
 /// Returns the shape of the longest piece at the start of the text and the text after it, or `None` if there is none.
 pub fn piece(inserts: Option<Inserts>, wanted: Expectation, text: &str) -> Option<(Shape, &str)>
-    ensures value { MatchOption result (pieces.NoPiece (piece_parts.setting inserts wanted) (chars text.now)) (λ p. spec.Piece_at (piece_parts.setting inserts wanted) p.0 (chars text.now) (chars p.1.now)) }
+    ensures value { MatchOption result (pieces.NoPiece (setting inserts wanted) (chars text.now)) (λ p. spec.Piece_at (setting inserts wanted) p.0 (chars text.now) (chars p.1.now)) }
     ensures within { IfSome result (λ p. length p.1.now < length text.now) }
 {
     cut_in(inserts, wanted, text)
@@ -201,8 +201,8 @@ pub fn past_gaps(
     wanted: Expectation,
     mut text: &str,
 ) -> (&str, Option<(Shape, &str)>)
-    ensures gaps { pieces.AfterGaps (piece_parts.setting inserts wanted) (chars text.entry.now) (chars result.0.now) }
-    ensures next { MatchOption result.1 (pieces.NoPiece (piece_parts.setting inserts wanted) (chars result.0.now)) (λ p. spec.Token_at (piece_parts.setting inserts wanted) p.0 (chars result.0.now) (chars p.1.now)) }
+    ensures gaps { pieces.AfterGaps (setting inserts wanted) (chars text.entry.now) (chars result.0.now) }
+    ensures next { MatchOption result.1 (pieces.NoPiece (setting inserts wanted) (chars result.0.now)) (λ p. spec.Token_at (setting inserts wanted) p.0 (chars result.0.now) (chars p.1.now)) }
 {
     while let Some((shape, rest)) = piece(inserts, wanted, text) {
         if !is_gap(shape) {

@@ -4,6 +4,7 @@ ghost use Rattle.std.specs.Prelude.{◌≡◌, ◌<◌, ◌+◌, ◌^◌, OnOk};
 ghost use Rattle.sbl_token.specs.Lexemes.{lexeme_of};
 ghost use Rattle.sbl_text.specs.Tokens.{placed_of};
 ghost use Rattle.sbl_text_rows.specs.PlaceRows as spec;
+ghost use Rattle.sbl_text_rows.specs.PlaceRows.{amongs_after, brackets_after, name_after};
 ghost use Rattle.sbl_text_rows.specs.Views.{context_of};
 
 use crate::extents::{is_among, is_define};
@@ -94,7 +95,7 @@ impl<'a> Walk<'a> {
 
     /// Goes past the parentheses of a token. Returns `AllocError` if an allocation fails.
     fn pass_brackets(&mut self, token: &Token<'_>) -> Result<(), AllocError>
-        ensures { OnOk result (context_of self.new ≡ record (context_of self.old) { brackets = spec.brackets_after (context_of self.old) (lexeme_of token.now) }) }
+        ensures { OnOk result (context_of self.new ≡ record (context_of self.old) { brackets = brackets_after (context_of self.old) (lexeme_of token.now) }) }
     {
         match token.kind {
             Kind::Sign(Sign::Open) => {
@@ -112,7 +113,7 @@ impl<'a> Walk<'a> {
     /// Goes past the name of a definition or past an among, if the token is one's.
     fn pass_words(&mut self, token: &Token<'a>)
         requires { (context_of self.old).amongs + 1 < 2 ^ 64 }
-        ensures { context_of self.new ≡ record (context_of self.old) { name = spec.name_after (context_of self.old) token.now.text.now; amongs = spec.amongs_after (context_of self.old) (lexeme_of token.now) } }
+        ensures { context_of self.new ≡ record (context_of self.old) { name = name_after (context_of self.old) token.now.text.now; amongs = amongs_after (context_of self.old) (lexeme_of token.now) } }
     {
         if self.follows_define {
             self.name = token.text;

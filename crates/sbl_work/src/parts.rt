@@ -6,6 +6,7 @@ ghost use Rattle.sbl_sessions.specs.CommandViews.{KeepsLine};
 ghost use Rattle.sbl_sessions.specs.Commands.{text_of_block};
 ghost use Rattle.sbl_work.specs.Answering.{part_edit};
 ghost use Rattle.sbl_work.specs.Commands as spec;
+ghost use Rattle.sbl_work.specs.Commands.{part_command};
 ghost use Rattle.sbl_history.specs.Desks.{State, state_of};
 ghost use Rattle.sbl_work.specs.Replies.{ReplacesKept};
 ghost use Rattle.sbl_script.specs.Parts.{view_part};
@@ -105,7 +106,7 @@ fn edit_part<B: BreakOff>(
     block: BlockText,
     break_off: &mut B,
 ) -> Reply
-    ensures { (lines : List (List ℕ)) → HoldsText block lines → Answers bench.old desk.old (spec.part_command (Some (view_part part.entry)) (made_text lines) (text_of_block lines)) result bench.new desk.new }
+    ensures { (lines : List (List ℕ)) → HoldsText block lines → Answers bench.old desk.old (part_command (Some (view_part part.entry)) (made_text lines) (text_of_block lines)) result bench.new desk.new }
 {
     match text_of(block) {
         Ok(text) => edit_reply(replace_part_kept(

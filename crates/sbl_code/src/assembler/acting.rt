@@ -25,7 +25,7 @@ impl Assembler {
         cost: u32,
         exits: &Exits,
     ) -> Result<Rc<Instruction>, AllocError>
-        ensures { IfOk result (λ made. (tables : ℕ → Listing) (n : ℕ) → PerformsWithExits tables (λ p levels. acts p.groupings (view_action action.now)) cost n exits.now made.value) }
+        ensures { IfOk result (λ made. (t : ℕ → Listing) (n : ℕ) → PerformsWithExits t (λ p levels. acts p.groupings (view_action action.now)) cost n exits.now made.value) }
     {
         match action {
             Action::Match(term) => match term {
@@ -49,7 +49,7 @@ impl Assembler {
         exits: &Exits,
         action: &Action,
     ) -> Result<Rc<Instruction>, AllocError>
-        ensures { IfOk result (λ made. (tables : ℕ → Listing) (n : ℕ) → PerformsWithExits tables (λ p levels. acts p.groupings (view_action action.now)) cost n exits.now made.value) }
+        ensures { IfOk result (λ made. (t : ℕ → Listing) (n : ℕ) → PerformsWithExits t (λ p levels. acts p.groupings (view_action action.now)) cost n exits.now made.value) }
     {
         let copy = copy_action(self.alloc, action)?;
         let action = Box::new(self.alloc, copy)?;
@@ -63,7 +63,7 @@ impl Assembler {
         cost: u32,
         exits: &Exits,
     ) -> Result<Rc<Instruction>, AllocError>
-        ensures { IfOk result (λ made. (tables : ℕ → Listing) (n : ℕ) → PerformsWithExits tables (λ p levels m s. match (character ∷ []) m s) cost n exits.now made.value) }
+        ensures { IfOk result (λ made. (t : ℕ → Listing) (n : ℕ) → PerformsWithExits t (λ p levels m s. match (character ∷ []) m s) cost n exits.now made.value) }
     {
         let back = false;
         emit!(
@@ -84,7 +84,7 @@ impl Assembler {
         cost: u32,
         exits: &Exits,
     ) -> Result<Rc<Instruction>, AllocError>
-        ensures { IfOk result (λ made. (tables : ℕ → Listing) (n : ℕ) → PerformsWithExits tables (λ p levels m s. match string.now m s) cost n exits.now made.value) }
+        ensures { IfOk result (λ made. (t : ℕ → Listing) (n : ℕ) → PerformsWithExits t (λ p levels m s. match string.now m s) cost n exits.now made.value) }
     {
         if string.len() == 1 {
             return self.character(string[0], cost, exits);
@@ -103,7 +103,7 @@ impl Assembler {
         cost: u32,
         exits: &Exits,
     ) -> Result<Rc<Instruction>, AllocError>
-        ensures { IfOk result (λ made. (tables : ℕ → Listing) (n : ℕ) → PerformsWithExits tables (λ p levels m s. test_grouping wanted (class_at p.groupings grouping) grouping m s) cost n exits.now made.value) }
+        ensures { IfOk result (λ made. (t : ℕ → Listing) (n : ℕ) → PerformsWithExits t (λ p levels m s. test_grouping wanted (class_at p.groupings grouping) grouping m s) cost n exits.now made.value) }
     {
         let back = false;
         emit!(
@@ -120,7 +120,7 @@ impl Assembler {
 
     // `next`
     pub(super) fn next(&mut self, cost: u32, exits: &Exits) -> Result<Rc<Instruction>, AllocError>
-        ensures { IfOk result (λ made. (tables : ℕ → Listing) (n : ℕ) → PerformsWithExits tables (λ p levels m s. move_next m s) cost n exits.now made.value) }
+        ensures { IfOk result (λ made. (t : ℕ → Listing) (n : ℕ) → PerformsWithExits t (λ p levels m s. move_next m s) cost n exits.now made.value) }
     {
         let Exits { next, fail } = exits.copy()?;
         self.emit(Instruction::Next { cost, next, fail })
@@ -133,7 +133,7 @@ impl Assembler {
         cost: u32,
         exits: &Exits,
     ) -> Result<Rc<Instruction>, AllocError>
-        ensures { IfOk result (λ made. (tables : ℕ → Listing) (n : ℕ) → PerformsWithExits tables (λ p levels m s. test_boolean number s) cost n exits.now made.value) }
+        ensures { IfOk result (λ made. (t : ℕ → Listing) (n : ℕ) → PerformsWithExits t (λ p levels m s. test_boolean number s) cost n exits.now made.value) }
     {
         emit!(self, exits, Boolean { cost, number })
     }
@@ -145,7 +145,7 @@ impl Assembler {
         cost: u32,
         exits: &Exits,
     ) -> Result<Rc<Instruction>, AllocError>
-        ensures { IfOk result (λ made. (tables : ℕ → Listing) (n : ℕ) → PerformsWithExits tables (λ p levels m s. Signals true (bracket_of left m s)) cost n exits.now made.value) }
+        ensures { IfOk result (λ made. (t : ℕ → Listing) (n : ℕ) → PerformsWithExits t (λ p levels m s. Signals true (bracket_of left m s)) cost n exits.now made.value) }
     {
         let next = exits.next.clone()?;
         if left {

@@ -37,7 +37,7 @@ impl Assembler {
 
     // Uses steps.
     pub(super) fn pay(&mut self, cost: u32, exits: &Exits) -> Result<Rc<Instruction>, AllocError>
-        ensures { IfOk result (λ made. (tables : ℕ → Listing) (n : ℕ) → PerformsWithExits tables (λ p levels m s. Signals true s) cost n exits.now made.value) }
+        ensures { IfOk result (λ made. (t : ℕ → Listing) (n : ℕ) → PerformsWithExits t (λ p levels m s. Signals true s) cost n exits.now made.value) }
     {
         let next = exits.next.clone()?;
         self.emit(Instruction::Pay { cost, next })
@@ -74,7 +74,7 @@ impl Assembler {
         cost: u32,
         exits: &Exits,
     ) -> Result<Rc<Instruction>, AllocError>
-        ensures { IfOk result (λ made. (tables : ℕ → Listing) (n : ℕ) → PerformsWithExits tables (λ p levels. pay_first (calls p levels routine)) cost n exits.now made.value) }
+        ensures { IfOk result (λ made. (t : ℕ → Listing) (n : ℕ) → PerformsWithExits t (λ p levels. pay_first (calls p levels routine)) cost n exits.now made.value) }
     {
         emit!(self, exits, Call { cost, routine })
     }
@@ -88,7 +88,7 @@ impl Assembler {
         cost: u32,
         exits: &Exits,
     ) -> Result<Rc<Instruction>, AllocError>
-        ensures { IfOk result (λ made. (tables : ℕ → Listing) (n : ℕ) → PerformsWithExits tables (λ p levels. pay_first (search_all (calls p levels) among entries.now (tables table))) cost n exits.now made.value) }
+        ensures { IfOk result (λ made. (t : ℕ → Listing) (n : ℕ) → PerformsWithExits t (λ p levels. pay_first (search_all (calls p levels) among entries.now (t table))) cost n exits.now made.value) }
     {
         let entries = Vec::from_slice(self.alloc, entries)?;
         let site = Box::new(self.alloc, SearchSite { table, entries })?;
@@ -104,7 +104,7 @@ impl Assembler {
         cost: u32,
         exits: &Exits,
     ) -> Result<Rc<Instruction>, AllocError>
-        ensures { IfOk result (λ made. (tables : ℕ → Listing) (n : ℕ) → PerformsWithExits tables (λ p levels. seek_of past (pay_first (class_test wanted grouping p levels))) cost n exits.now made.value) }
+        ensures { IfOk result (λ made. (t : ℕ → Listing) (n : ℕ) → PerformsWithExits t (λ p levels. seek_of past (pay_first (class_test wanted grouping p levels))) cost n exits.now made.value) }
     {
         emit!(
             self,
@@ -125,7 +125,7 @@ impl Assembler {
         cost: u32,
         exits: &Exits,
     ) -> Result<Rc<Instruction>, AllocError>
-        ensures { IfOk result (λ made. (tables : ℕ → Listing) (n : ℕ) → PerformsWithExits tables (λ p levels. pay_first (alone (flow p levels tables body.value))) cost n exits.now made.value) }
+        ensures { IfOk result (λ made. (t : ℕ → Listing) (n : ℕ) → PerformsWithExits t (λ p levels. pay_first (alone (flow p levels t body.value))) cost n exits.now made.value) }
     {
         emit!(self, exits, Nested { cost, body })
     }
@@ -138,7 +138,7 @@ impl Assembler {
         cost: u32,
         exits: &Exits,
     ) -> Result<Rc<Instruction>, AllocError>
-        ensures { IfOk result (λ made. (tables : ℕ → Listing) → PerformsChosen tables among groups.items cost exits.now made.value) }
+        ensures { IfOk result (λ made. (t : ℕ → Listing) → PerformsChosen t among groups.items cost exits.now made.value) }
     {
         let bodies = Box::new(self.alloc, groups)?;
         emit!(

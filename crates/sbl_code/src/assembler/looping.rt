@@ -24,7 +24,7 @@ impl Assembler {
         cost: u32,
         exits: &Exits,
     ) -> Result<Rc<Instruction>, AllocError>
-        ensures { IfOk result (λ made. (tables : ℕ → Listing) (n : ℕ) → PerformsWithExits tables (λ p levels. pay_first (turns_of (runs p levels (view_node tables inner.now)))) cost n exits.now made.value) }
+        ensures { IfOk result (λ made. (t : ℕ → Listing) (n : ℕ) → PerformsWithExits t (λ p levels. pay_first (turns_of (runs p levels (view_node t inner.now)))) cost n exits.now made.value) }
     {
         let body = self.body(inner)?;
         let next = exits.next.clone()?;
@@ -40,7 +40,7 @@ impl Assembler {
         cost: u32,
         exits: &Exits,
     ) -> Result<Rc<Instruction>, AllocError>
-        ensures { IfOk result (λ made. (tables : ℕ → Listing) (n : ℕ) → PerformsWithExits tables (λ p levels. pay_first (seek_of past (runs p levels (view_node tables inner.now)))) cost n exits.now made.value) }
+        ensures { IfOk result (λ made. (t : ℕ → Listing) (n : ℕ) → PerformsWithExits t (λ p levels. pay_first (seek_of past (runs p levels (view_node t inner.now)))) cost n exits.now made.value) }
     {
         match inner {
             Node::Act(action) => match action {
@@ -65,7 +65,7 @@ impl Assembler {
         exits: &Exits,
         cost: u32,
     ) -> Result<Rc<Instruction>, AllocError>
-        ensures { IfOk result (λ made. (tables : ℕ → Listing) (n : ℕ) → PerformsWithExits tables (λ p levels. pay_first (seek_of past (runs p levels (view_node tables inner.now)))) cost n exits.now made.value) }
+        ensures { IfOk result (λ made. (t : ℕ → Listing) (n : ℕ) → PerformsWithExits t (λ p levels. pay_first (seek_of past (runs p levels (view_node t inner.now)))) cost n exits.now made.value) }
     {
         let body = self.body(inner)?;
         emit!(self, exits, Seek { cost, past, body })
@@ -79,7 +79,7 @@ impl Assembler {
         exits: &Exits,
         inner: &Node,
     ) -> Result<Rc<Instruction>, AllocError>
-        ensures { IfOk result (λ made. (tables : ℕ → Listing) (n : ℕ) → PerformsWithExits tables (λ p levels. pay_first (backwards_of (runs p levels (view_node tables inner.now)))) cost n exits.now made.value) }
+        ensures { IfOk result (λ made. (t : ℕ → Listing) (n : ℕ) → PerformsWithExits t (λ p levels. pay_first (backwards_of (runs p levels (view_node t inner.now)))) cost n exits.now made.value) }
     {
         let body = self.body(inner)?;
         emit!(self, exits, Backwards { cost, body })
@@ -94,7 +94,7 @@ impl Assembler {
         cost: u32,
         exits: &Exits,
     ) -> Result<Rc<Instruction>, AllocError>
-        ensures { IfOk result (λ made. (tables : ℕ → Listing) (n : ℕ) → PerformsWithExits tables (limit_node tables first.now second.value) cost n exits.now made.value) }
+        ensures { IfOk result (λ made. (t : ℕ → Listing) (n : ℕ) → PerformsWithExits t (limit_node t first.now second.value) cost n exits.now made.value) }
     {
         let first = self.body(first)?;
         emit!(
@@ -118,7 +118,7 @@ impl Assembler {
         cost: u32,
         exits: &Exits,
     ) -> Result<Rc<Instruction>, AllocError>
-        ensures { IfOk result (λ made. (tables : ℕ → Listing) (n : ℕ) → PerformsWithExits tables (counted_node tables repeats count.now inner.now) cost n exits.now made.value) }
+        ensures { IfOk result (λ made. (t : ℕ → Listing) (n : ℕ) → PerformsWithExits t (counted_node t repeats count.now inner.now) cost n exits.now made.value) }
     {
         let body = self.body(inner)?;
         let copy = copy_number(self.alloc, count)?;

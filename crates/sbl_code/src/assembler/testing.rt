@@ -38,7 +38,7 @@ impl Assembler {
         exits: &Exits,
     ) -> Result<Rc<Instruction>, AllocError>
         requires { slot < 4 }
-        ensures { IfOk result (λ made. (tables : ℕ → Listing) → PerformsAtWithExits tables (λ p levels. runs p levels (view_node tables node.now)) 0 slot exits.now made.value) }
+        ensures { IfOk result (λ made. (t : ℕ → Listing) → PerformsAtWithExits t (λ p levels. runs p levels (view_node t node.now)) 0 slot exits.now made.value) }
     {
         match node {
             Node::Act(action) => self.test(action, 1, slot, exits),
@@ -56,7 +56,7 @@ impl Assembler {
         exits: &Exits,
     ) -> Result<Rc<Instruction>, AllocError>
         requires { slot < 4 }
-        ensures { IfOk result (λ made. (tables : ℕ → Listing) → PerformsAtWithExits tables (λ p levels. all_run p levels (view_nodes tables commands.now)) 1 slot exits.now made.value) }
+        ensures { IfOk result (λ made. (t : ℕ → Listing) → PerformsAtWithExits t (λ p levels. all_run p levels (view_nodes t commands.now)) 1 slot exits.now made.value) }
     {
         if commands.len() < 2 {
             return self.sequence(commands, 1, slot + 1, exits);
@@ -86,7 +86,7 @@ impl Assembler {
     ) -> Result<Rc<Instruction>, AllocError>
         requires many { 2 ≤ length commands.now }
         requires small { slot < 4 }
-        ensures { IfOk result (λ made. (tables : ℕ → Listing) → PerformsAtWithExits tables (λ p levels. all_run p levels (view_nodes tables (drop 1 commands.now))) 0 slot exits.now made.value) }
+        ensures { IfOk result (λ made. (t : ℕ → Listing) → PerformsAtWithExits t (λ p levels. all_run p levels (view_nodes t (drop 1 commands.now))) 0 slot exits.now made.value) }
     {
         match &commands[1] {
             Node::Act(second) => {
@@ -108,7 +108,7 @@ impl Assembler {
         slot: usize,
         exits: &Exits,
     ) -> Result<Rc<Instruction>, AllocError>
-        ensures { IfOk result (λ made. (tables : ℕ → Listing) → PerformsAtWithExits tables (λ p levels. acts p.groupings (view_action action.now)) cost slot exits.now made.value) }
+        ensures { IfOk result (λ made. (t : ℕ → Listing) → PerformsAtWithExits t (λ p levels. acts p.groupings (view_action action.now)) cost slot exits.now made.value) }
     {
         let Some(stay) = stay(exits, slot) else {
             return self.act(action, cost, exits);
@@ -132,7 +132,7 @@ impl Assembler {
         next: &Rc<Instruction>,
         stay: &Rc<Instruction>,
     ) -> Result<Rc<Instruction>, AllocError>
-        ensures { IfOk result (λ made. (tables : ℕ → Listing) → Tests tables (λ p levels m s. match string.now m s) cost next.now.value stay.now.value made.value) }
+        ensures { IfOk result (λ made. (t : ℕ → Listing) → Tests t (λ p levels m s. match string.now m s) cost next.now.value stay.now.value made.value) }
     {
         let next = next.clone()?;
         let fail = stay.clone()?;
@@ -167,7 +167,7 @@ impl Assembler {
         next: &Rc<Instruction>,
         stay: &Rc<Instruction>,
     ) -> Result<Rc<Instruction>, AllocError>
-        ensures { IfOk result (λ made. (tables : ℕ → Listing) → Tests tables (λ p levels m s. test_grouping wanted (class_at p.groupings grouping) grouping m s) cost next.now.value stay.now.value made.value) }
+        ensures { IfOk result (λ made. (t : ℕ → Listing) → Tests t (λ p levels m s. test_grouping wanted (class_at p.groupings grouping) grouping m s) cost next.now.value stay.now.value made.value) }
     {
         let next = next.clone()?;
         let fail = stay.clone()?;

@@ -7,7 +7,7 @@ ghost use Rattle.std.specs.Cmp.Lexicographic.{slice_cmp};
 ghost use Rattle.sbl_program.specs.Best.{IsBest};
 ghost use Rattle.sbl_program.specs.Keys.{AreKeys, IsKey};
 ghost use Rattle.sbl_semantics.specs.Fitting.{read_as};
-ghost use Rattle.sbl_program.specs.Linked.{AreLinks, GoDown, IsCommon, IsCount, IsLast, IsLinked, Rise, StandsAt, before, texts_of};
+ghost use Rattle.sbl_program.specs.Linked.{AreLinks, GoDown, IsCommon, IsCount, IsLast, IsLinked, Rise, StandsAt, before, texts_of as texts};
 
 use crate::linked::keys::{key_of, keys_upto};
 use crate::linked::reading::read_at;
@@ -26,10 +26,10 @@ pub fn best_of(
     part: &[char],
     below: usize,
 ) -> Option<usize>
-    requires keyed { AreKeys (texts_of rows.now) keys.now }
+    requires keyed { AreKeys (texts rows.now) keys.now }
     requires down { GoDown links.now }
     requires long { length links.now ≡ length rows.now }
-    requires rise { Rise (texts_of rows.now) }
+    requires rise { Rise (texts rows.now) }
     ensures { (strings : List (List ℕ)) → IsLinked strings rows.now links.now → IsBest strings (read_as direction part.now) below result }
 {
     let count = count_upto(rows, keys, direction, part);
@@ -44,8 +44,8 @@ pub fn links_of(
     alloc: Global,
     rows: &[(Vec<char>, Reverse<usize>)],
 ) -> Result<Vec<Option<usize>>, AllocError>
-    requires { Rise (texts_of rows.now) }
-    ensures are { IfOk result (λ links. AreLinks (texts_of rows.now) links.items) }
+    requires { Rise (texts rows.now) }
+    ensures are { IfOk result (λ links. AreLinks (texts rows.now) links.items) }
     ensures down { IfOk result (λ links. GoDown links.items) }
     ensures long { IfOk result (λ links. length links.items ≡ length rows.now) }
 {
@@ -70,7 +70,7 @@ fn follow(
     requires down { GoDown links.now }
     requires linked { count ≤ length links.now }
     requires long { length links.now ≤ length rows.now }
-    ensures last { AreLinks (texts_of rows.now) links.now → StandsAt (texts_of rows.now) (read_as direction part.now) below (before count) → IsLast (texts_of rows.now) (read_as direction part.now) below result }
+    ensures last { AreLinks (texts rows.now) links.now → StandsAt (texts rows.now) (read_as direction part.now) below (before count) → IsLast (texts rows.now) (read_as direction part.now) below result }
     ensures inside { IfSome result (λ r. r < count) }
 {
     let mut at = row_before(count);
@@ -98,9 +98,9 @@ fn count_upto(
     direction: Mode,
     part: &[char],
 ) -> usize
-    requires rise { Rise (texts_of rows.now) }
-    requires keyed { AreKeys (texts_of rows.now) keys.now }
-    ensures { IsCount (texts_of rows.now) (read_as direction part.now) result }
+    requires rise { Rise (texts rows.now) }
+    requires keyed { AreKeys (texts rows.now) keys.now }
+    ensures { IsCount (texts rows.now) (read_as direction part.now) result }
 {
     let key = key_of(direction, part);
     let count = keys_upto(keys, key);
@@ -122,12 +122,12 @@ fn count_before(
     key: u64,
     end: usize,
 ) -> usize
-    requires rise { Rise (texts_of rows.now) }
-    requires keyed { AreKeys (texts_of rows.now) keys.now }
+    requires rise { Rise (texts rows.now) }
+    requires keyed { AreKeys (texts rows.now) keys.now }
     requires own { IsKey (read_as direction part.now) key }
     requires end_in { end ≤ length rows.now }
-    requires following { (j : ℕ) (v : List ℕ) → end ≤ j → slice_get (texts_of rows.now) j ≡ Some v → is_gt (slice_cmp nat_cmp v (read_as direction part.now)) ≡ true }
-    ensures { IsCount (texts_of rows.now) (read_as direction part.now) result }
+    requires following { (j : ℕ) (v : List ℕ) → end ≤ j → slice_get (texts rows.now) j ≡ Some v → is_gt (slice_cmp nat_cmp v (read_as direction part.now)) ≡ true }
+    ensures { IsCount (texts rows.now) (read_as direction part.now) result }
 {
     let mut low = 0;
     let mut high = end;
