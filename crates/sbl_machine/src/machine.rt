@@ -245,8 +245,8 @@ impl<S: AmongSearch> Machine<S> {
             return Err(RunStop::MeterFull);
         }
         let stem = meter.take_stem(alloc);
-        let RunEnd { outcome, used } = self.run_in(alloc, &mut meter.state, stem, word, limit)?;
         let mut touches = meter.take_touches(alloc);
+        let RunEnd { outcome, used } = self.run_in(alloc, &mut meter.state, stem, word, limit)?;
         touches.clear();
         touches.extend_from_slice(last_touches(&meter.state))?;
         Ok(RunTrace {
