@@ -69,7 +69,7 @@ state_of d = record {
 }
 
 -- The desk at the start: these bytes are its text, nothing can be undone or redone, the mark is set, and no text was refused.
--- Edits may be broken off if this is true.
+-- Edits may be broken off if `may_break` is true.
 abbrev pub first_desk : Bool → Contents → List ℕ → State
 first_desk may_break s bytes = record {
   text = Some bytes;

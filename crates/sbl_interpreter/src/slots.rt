@@ -3,35 +3,35 @@
 ghost use Rattle.std.specs.Prelude.{◌≡◌, slice_index_or, slice_set};
 ghost use Rattle.sbl_run_state.specs.Endings.{IsSaved};
 ghost use Rattle.sbl_code.specs.Slots.{no_cursor, no_cursors};
-ghost use Rattle.sbl_interpreter.specs.SmallCursors.{large_of};
+ghost use Rattle.sbl_interpreter.specs.PackedCursors.{unpacked};
 
 use sbl_code::SLOTS;
 use sbl_semantics::SavedCursor;
 use std::marker::Model;
 
-/// A saved cursor in few bytes: a runner clears its slots each time that it begins.
+/// A saved cursor in six bytes, since a run clears four of them at its start.
 #[derive(Clone, Copy)]
-struct SmallCursor {
+struct PackedCursor {
     cursor: u16,
     beyond: u16,
     length: u16,
 }
 
 /// A cursor in an empty text, which a slot holds before one is saved in it.
-const NO_CURSOR: SmallCursor = SmallCursor {
+const NO_CURSOR: PackedCursor = PackedCursor {
     cursor: 0,
     beyond: 0,
     length: 0,
 };
 
-impl SmallCursor {
-    /// Returns a saved cursor in few bytes.
+impl PackedCursor {
+    /// Returns the packed cursor.
     #[inline(always)]
-    fn of(from: SavedCursor) -> SmallCursor
+    fn of(from: SavedCursor) -> PackedCursor
         requires { IsSaved from }
-        ensures { large_of result ≡ from }
+        ensures { unpacked result ≡ from }
     {
-        SmallCursor {
+        PackedCursor {
             cursor: from.cursor as u16,
             beyond: from.beyond as u16,
             length: from.length as u16,
@@ -40,8 +40,8 @@ impl SmallCursor {
 
     /// Returns the saved cursor.
     #[inline(always)]
-    fn large(self) -> SavedCursor
-        ensures { result ≡ large_of self }
+    fn unpack(self) -> SavedCursor
+        ensures { result ≡ unpacked self }
     {
         SavedCursor {
             cursor: self.cursor as usize,
@@ -54,7 +54,7 @@ impl SmallCursor {
 /// Saved cursors, by slot.
 #[derive(Drop)]
 pub struct SavedCursors {
-    cursors: [SmallCursor; 4],
+    cursors: [PackedCursor; 4],
 }
 
 impl Model for SavedCursors {
@@ -62,13 +62,13 @@ impl Model for SavedCursors {
     ghost use Rattle.sbl_semantics.specs.declared.cursor.SavedCursor.{SavedCursor};
     ghost use Rattle.sbl_run_state.specs.Endings.{IsSaved};
     ghost use Rattle.sbl_code.specs.Slots.{no_cursor};
-    ghost use Rattle.sbl_interpreter.specs.SmallCursors.{large_of};
+    ghost use Rattle.sbl_interpreter.specs.PackedCursors.{unpacked};
 
     ghost Value = { List SavedCursor };
 
-    ghost view = { λ s. map large_of s.cursors };
+    ghost view = { λ s. map unpacked s.cursors };
 
-    ghost invariant = { λ s. (length s.cursors ≡ 4) × ((j : ℕ) → IsSaved (slice_index_or (map large_of s.cursors) j no_cursor)) };
+    ghost invariant = { λ s. (length s.cursors ≡ 4) × ((j : ℕ) → IsSaved (slice_index_or (map unpacked s.cursors) j no_cursor)) };
 }
 
 impl SavedCursors {
@@ -89,7 +89,7 @@ impl SavedCursors {
         ensures { self.new ≡ slice_set self.old slot cursor }
     {
         if slot < SLOTS {
-            self.cursors[slot] = SmallCursor::of(cursor);
+            self.cursors[slot] = PackedCursor::of(cursor);
         }
     }
 
@@ -100,9 +100,9 @@ impl SavedCursors {
         ensures saved { IsSaved result }
     {
         if slot < SLOTS {
-            self.cursors[slot].large()
+            self.cursors[slot].unpack()
         } else {
-            NO_CURSOR.large()
+            NO_CURSOR.unpack()
         }
     }
 }

@@ -140,8 +140,8 @@ impl<S: AmongSearch> Machine<S> {
         limit: u32,
     ) -> Result<RunEnd, RunStop>
         requires { length word.now ≤ max_word_length }
-        ensures outcome { (script : Source) → IsMachineOf S S.entries S.mode self.now script → IfOk result (λ end. outcome_of end.outcome ≡ run_of script word.now limit) }
-        ensures used { (script : Source) → IsMachineOf S S.entries S.mode self.now script → IfOk result (λ end. end.used ≡ used_of script word.now limit) }
+        ensures outcome { (script : Source) → IsMachineOf S S.entries S.mode self.now script → IfOk result (λ ended. outcome_of ended.outcome ≡ run_of script word.now limit) }
+        ensures used { (script : Source) → IsMachineOf S S.entries S.mode self.now script → IfOk result (λ ended. ended.used ≡ used_of script word.now limit) }
         ensures counted { MatchResult result (λ _. meter.new ≡ meter.old + 1) (λ _. meter.new ≡ meter.old) }
         ensures full { (result ≡ Err RunStop.MeterFull) ↔ (meter.old ≡ u64.MAX) }
     {
@@ -149,9 +149,9 @@ impl<S: AmongSearch> Machine<S> {
             return Err(RunStop::MeterFull);
         }
         let stem = meter.take_stem(alloc);
-        let end = self.run_in(alloc, &mut meter.state, stem, word, limit)?;
+        let ended = self.run_in(alloc, &mut meter.state, stem, word, limit)?;
         meter.count_run();
-        Ok(end)
+        Ok(ended)
     }
 
     /// Runs the script on a word with at most `limit` steps, and returns the events of the run and the values of the integer
@@ -266,9 +266,9 @@ impl<S: AmongSearch> Machine<S> {
         limit: u32,
     ) -> Result<RunEnd, AllocError>
         requires { length word.now ≤ max_word_length }
-        ensures outcome { (script : Source) → IsMachineOf S S.entries S.mode self.now script → IfOk result (λ end. outcome_of end.outcome ≡ run_of script word.now limit) }
+        ensures outcome { (script : Source) → IsMachineOf S S.entries S.mode self.now script → IfOk result (λ ended. outcome_of ended.outcome ≡ run_of script word.now limit) }
         ensures touches { (script : Source) → IsMachineOf S S.entries S.mode self.now script → IfOk result (λ _. touched_in kept.new ≡ touches_of script word.now limit) }
-        ensures used { (script : Source) → IsMachineOf S S.entries S.mode self.now script → IfOk result (λ end. end.used ≡ used_of script word.now limit) }
+        ensures used { (script : Source) → IsMachineOf S S.entries S.mode self.now script → IfOk result (λ ended. ended.used ≡ used_of script word.now limit) }
     {
         match kept {
             Some(state) => self.ran(state, stem, word, limit),
@@ -288,14 +288,14 @@ impl<S: AmongSearch> Machine<S> {
         limit: u32,
     ) -> Result<RunEnd, AllocError>
         requires { length word.now ≤ max_word_length }
-        ensures outcome { (script : Source) → IsMachineOf S S.entries S.mode self.now script → IfOk result (λ end. outcome_of end.outcome ≡ run_of script word.now limit) }
+        ensures outcome { (script : Source) → IsMachineOf S S.entries S.mode self.now script → IfOk result (λ ended. outcome_of ended.outcome ≡ run_of script word.now limit) }
         ensures touches { (script : Source) → IsMachineOf S S.entries S.mode self.now script → IfOk result (λ _. touched_in kept.new ≡ touches_of script word.now limit) }
-        ensures used { (script : Source) → IsMachineOf S S.entries S.mode self.now script → IfOk result (λ end. end.used ≡ used_of script word.now limit) }
+        ensures used { (script : Source) → IsMachineOf S S.entries S.mode self.now script → IfOk result (λ ended. ended.used ≡ used_of script word.now limit) }
     {
         let mut state = State::new(alloc);
-        let end = self.ran(&mut state, stem, word, limit)?;
+        let ended = self.ran(&mut state, stem, word, limit)?;
         *kept = Some(state);
-        Ok(end)
+        Ok(ended)
     }
 
     // Makes a run with its events, in this state.
@@ -355,9 +355,9 @@ impl<S: AmongSearch> Machine<S> {
         limit: u32,
     ) -> Result<RunEnd, AllocError>
         requires { length word.now ≤ max_word_length }
-        ensures outcome { (script : Source) → IsMachineOf S S.entries S.mode self.now script → IfOk result (λ end. outcome_of end.outcome ≡ run_of script word.now limit) }
+        ensures outcome { (script : Source) → IsMachineOf S S.entries S.mode self.now script → IfOk result (λ ended. outcome_of ended.outcome ≡ run_of script word.now limit) }
         ensures touches { (script : Source) → IsMachineOf S S.entries S.mode self.now script → IfOk result (λ _. state.new.touched ≡ touches_of script word.now limit) }
-        ensures used { (script : Source) → IsMachineOf S S.entries S.mode self.now script → IfOk result (λ end. end.used ≡ used_of script word.now limit) }
+        ensures used { (script : Source) → IsMachineOf S S.entries S.mode self.now script → IfOk result (λ ended. ended.used ≡ used_of script word.now limit) }
     {
         self.restart(state, word, limit)?;
         let end = self.call_external(state);

@@ -13,7 +13,7 @@ pub struct Meter {
     runs: u64,
     // The state of the last run. The next run begins in its buffers.
     pub(crate) state: Option<State>,
-    // A list of touches that was given back. The next run puts its touches into it.
+    // A list of touches that was given back. The next run that returns touches puts them into it.
     touches: Option<Vec<Touch>>,
     // A stem that was given back. The next run puts its stem into it.
     stem: Option<Vec<char>>,
@@ -55,7 +55,7 @@ impl Meter {
         self.count() == u64::MAX
     }
 
-    /// Gives back a list of touches, so that the next run needs no new one. The count stays. Does not allocate.
+    /// Gives back a list of touches, so that the next run that returns touches needs no new one. The count stays. Does not allocate.
     pub fn reuse(&mut self, touches: Vec<Touch>)
         ensures { self.new ≡ self.old }
     {

@@ -137,13 +137,16 @@ abbrev pub fault_after : List Occurrence → List Occurrence → List Occurrence
 fault_after all before [] = None
 fault_after all before (m ∷ after) = option_or (fault_at all before m after) (fault_after all (before ++ m ∷ []) after)
 
+-- the name is declared in `externals` and defined in forward mode
+abbrev pub has_external : List Item → List ℕ → List Occurrence → Bool
+has_external items external all = option_map_or (is_kind kinds.Externals) (kind_of external all) false && is_some (body_in external items)
+
 -- The first fault of a script with this external. Last comes that the name is not declared in `externals`, or not
 -- defined in forward mode.
 abbrev pub fault_of : List Item → List ℕ → Option ScriptFault
 fault_of items external =
     let all = occurrences_of items in
-    let is_there = option_map_or (is_kind kinds.Externals) (kind_of external all) false && is_some (body_in external items) in
-    option_or (fault_after all [] all) (if is_there then None else Some fault.NoExternal)
+    option_or (fault_after all [] all) (if has_external items external all then None else Some fault.NoExternal)
 
 -- no check fails
 abbrev pub WellDeclared : List Item → List ℕ → Type 0
@@ -154,7 +157,3 @@ WellDeclared items external = fault_of items external ≡ None
 -- a name of this kind needs a definition
 abbrev pub needs_definition : DeclarationKind → Bool
 needs_definition k = is_routine k || is_grouping k
-
--- the name is declared in `externals` and defined in forward mode
-abbrev pub has_external : List Item → List ℕ → List Occurrence → Bool
-has_external items external all = option_map_or (is_kind kinds.Externals) (kind_of external all) false && is_some (body_in external items)

@@ -86,6 +86,8 @@ abbrev mutual
   pub noted_command : Command → Site → List Occurrence → List Occurrence
   noted_command (bracket rs) p sofar = noted_rows rs p sofar
   noted_command (simple_ simples.Substring) p sofar = put substring p sofar
+  noted_command (simple_ s) p sofar = sofar
+  noted_command (literal_ q) p sofar = sofar
   noted_command (name_ n) p sofar = put (uses use_as.Command n) p sofar
   noted_command (non_ with_minus n) p sofar = put (uses use_as.Excluded n) p sofar
   noted_command (prefixed prefixes.Backwards c) p sofar = noted_command c (record { item = p.item; mode = Backward }) (put backwards p sofar)
@@ -101,7 +103,6 @@ abbrev mutual
   noted_command (among_ no_starter gs) p sofar = noted_groups gs (amongs_in sofar 0 + 1) p (put (among false (is_empty gs)) p sofar)
   noted_command (among_ (starter rs) gs) p sofar =
       noted_groups gs (amongs_in sofar 0 + 1) p (put region_end p (noted_rows rs p (put (among true (is_empty gs)) p sofar)))
-  noted_command _ p sofar = sofar
 
   pub noted_rows : Rows → Site → List Occurrence → List Occurrence
   noted_rows no_rows p sofar = sofar
@@ -120,10 +121,11 @@ abbrev mutual
 
 abbrev pub noted_plain : Plain → Site → List Occurrence → List Occurrence
 noted_plain (declaration k ns) p sofar = fold (λ s n. put (declares k n) p s) sofar ns
+noted_plain (escapes a b) p sofar = sofar
+noted_plain (macro n b q) p sofar = sofar
 noted_plain (routine n c os) p sofar = put region_end p (noted_others os p (noted_command c p (put (defines_routine n) p sofar)))
 noted_plain (grouping n a ts) p sofar =
     fold (λ s x. elim x [ term o b ↦ noted_name use_as.Term b p s ]) (noted_name use_as.Term a p (put (defines_grouping n) p sofar)) ts
-noted_plain _ p sofar = sofar
 
 -- the occurrences of these items; n is the number of the first one
 abbrev pub noted_items : List ItemInMode → ℕ → List Occurrence → List Occurrence

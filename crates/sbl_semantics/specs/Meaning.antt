@@ -254,8 +254,7 @@ module _ (ns : DeclaredNames) (class : List ℕ → ℕ → Bool) (call : List �
       if is_member (ns kinds.Groupings) n then tests ns class true n m s else
       call n m s
 
-  -- a search at the landmark with number i of a routine with these landmarks: of the among there, or of that of the `substring` there;
-  -- f if the `substring` has none
+  -- searches the among at landmark i of a routine with these landmarks, or that of the `substring` there; f if there is none
   abbrev pub search_at : List Landmark → ℕ → Doing
   search_at ls i m s = option_map_or (λ a. search call a m s) (next_among (amongs_in (take i ls)) (drop i ls)) (Signals false s)
 

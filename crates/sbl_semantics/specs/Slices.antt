@@ -20,7 +20,7 @@ set_end false s = record s { ket = s.cursor }
 abbrev pub is_slice : State → Bool
 is_slice s = nat_le s.bra s.ket && nat_le (s.ket + s.beyond) (length s.text)
 
--- ends in this way if there is a slice
+-- ends in this way if bra..ket is a slice; otherwise stops as Slice
 abbrev pub on_slice : State → Ending → Ending
 on_slice s e = if is_slice s then e else Stops Slice s
 

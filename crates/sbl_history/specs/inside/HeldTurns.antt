@@ -7,6 +7,7 @@ use Rattle.sbl_history.specs.Desks.{Turns, view_edits, view_text}
 use Rattle.sbl_history.specs.declared.history.HistoryFault.{HistoryFault}
 use Rattle.sbl_history.specs.declared.steps.HeldEdit.{HeldEdit}
 
+-- what undoes or redoes, as `Turns` says it of what the desk holds
 abbrev pub TurnsHeld : Bool → Result (Unit {0}) HistoryFault → KeptRuns → KeptRuns → Option (Vec ℕ Global) → Option (Vec ℕ Global)
     → Vec HeldEdit Global → Vec HeldEdit Global → Vec HeldEdit Global → Vec HeldEdit Global → Type 0
 TurnsHeld may_break result bench new_bench text new_text from to new_from new_to =

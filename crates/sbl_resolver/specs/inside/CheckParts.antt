@@ -14,7 +14,7 @@ use Rattle.sbl_resolver.specs.Checks.{is_mode, is_text_of}
 abbrev pub amongs_after : Notice → ℕ → ℕ
 amongs_after x j = elim x [ defines_routine n ↦ 0 | among has_starter is_empty ↦ j + 1 | _ ↦ j ]
 
--- the kind of the name that an occurrence declares
+-- the kind as which this occurrence declares the name, if it does
 abbrev pub declared_as : List ℕ → Notice → Option DeclarationKind
 declared_as n y = elim y [ declares k x ↦ if bytes_eq n x then Some k else None | _ ↦ None ]
 
