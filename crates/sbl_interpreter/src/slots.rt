@@ -3,7 +3,7 @@
 ghost use Rattle.std.specs.Prelude.{◌≡◌, slice_index_or, slice_set};
 ghost use Rattle.sbl_run_state.specs.Endings.{IsSaved};
 ghost use Rattle.sbl_code.specs.Slots.{no_cursor, no_cursors};
-ghost use Rattle.sbl_interpreter.specs.PackedCursors.{unpacked};
+ghost use Rattle.sbl_interpreter.specs.PackedCursors.{unpacked_cursor};
 
 use sbl_code::SLOTS;
 use sbl_semantics::SavedCursor;
@@ -29,7 +29,7 @@ impl PackedCursor {
     #[inline(always)]
     fn of(from: SavedCursor) -> PackedCursor
         requires { IsSaved from }
-        ensures { unpacked result ≡ from }
+        ensures { unpacked_cursor result ≡ from }
     {
         PackedCursor {
             cursor: from.cursor as u16,
@@ -41,7 +41,7 @@ impl PackedCursor {
     /// Returns the saved cursor.
     #[inline(always)]
     fn unpack(self) -> SavedCursor
-        ensures { result ≡ unpacked self }
+        ensures { result ≡ unpacked_cursor self }
     {
         SavedCursor {
             cursor: self.cursor as usize,
@@ -62,13 +62,13 @@ impl Model for SavedCursors {
     ghost use Rattle.sbl_semantics.specs.declared.cursor.SavedCursor.{SavedCursor};
     ghost use Rattle.sbl_run_state.specs.Endings.{IsSaved};
     ghost use Rattle.sbl_code.specs.Slots.{no_cursor};
-    ghost use Rattle.sbl_interpreter.specs.PackedCursors.{unpacked};
+    ghost use Rattle.sbl_interpreter.specs.PackedCursors.{unpacked_cursor};
 
     ghost Value = { List SavedCursor };
 
-    ghost view = { λ s. map unpacked s.cursors };
+    ghost view = { λ s. map unpacked_cursor s.cursors };
 
-    ghost invariant = { λ s. (length s.cursors ≡ 4) × ((j : ℕ) → IsSaved (slice_index_or (map unpacked s.cursors) j no_cursor)) };
+    ghost invariant = { λ s. (length s.cursors ≡ 4) × ((j : ℕ) → IsSaved (slice_index_or (map unpacked_cursor s.cursors) j no_cursor)) };
 }
 
 impl SavedCursors {

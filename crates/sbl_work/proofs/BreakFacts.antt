@@ -245,7 +245,7 @@ pub sessions_reply : SessionsReply
 sessions_reply k s d text t e is (reply, noted) = subst (λ (m : Bool). IsSessionReply m k s text t) is reply
 
 pub work_begins_unbroken : WorkBeginsUnbroken
-work_begins_unbroken left held reads writes paths prompt lines new_lines writer new_writer status none (inl (ends, rest)) = inl ends
+work_begins_unbroken left held reads writes paths prompt lines new_lines writer new_writer status none (inl ends) = inl ends
 work_begins_unbroken left held reads writes paths prompt lines new_lines writer new_writer status none
     (inr (bytes, s, served, opened, (t, e, works, reasons), status_is)) =
     inr (s, first_desk (is_some paths.stop) s bytes, t, e, served, works, ap is_some none)

@@ -24,16 +24,16 @@ use Rattle.sbl_source_map.specs.Heads.{IsWithoutHead}
 use Rattle.sbl_work.specs.Commands.{EditPart, EditWhole, Redo, Session, Undo, Words}
 use Rattle.sbl_work.specs.Replies.{IsWorkReply, redo_text, undo_text, words_text}
 use Rattle.sbl_work.specs.Serving.{AreReplies, Choice, IsWork}
-use Rattle.sbl_work.specs.WholeWork.{WorksOver}
+use Rattle.sbl_work.specs.WholeWork.{IsUntouched, WorksOver}
 use Rattle.sbl_work.specs.declared.files.Paths.{Paths}
 
--- no request changes whether edits may be broken off
+-- no request changes whether edits can be broken off
 abbrev pub MayBreakStays : Type 0
 MayBreakStays =
     (choices : List Choice) (s : Contents) (d : State) (requests : List Request) (replies : List (List ℕ)) (t : Contents) (e : State)
     → AreReplies choices s d requests replies t e → e.may_break ≡ d.may_break
 
--- ---- the replies if edits may not be broken off
+-- ---- the replies if edits cannot be broken off
 
 -- a whole script is replaced as the bench replaces it
 abbrev pub WholeScriptsAreEdited : Type 0
@@ -48,27 +48,27 @@ IsPartEdited what block s text t =
     (rest : List ℕ) × (result : Result (Unit {0}) EditFault) × IsWithoutHead what block rest × Edits result s (Replace what rest) t
     × (text ≡ edit_text (fault_in result))
 
--- a part is replaced as the bench replaces it, or an allocation fails
+-- a part is replaced as the bench replaces it; or an allocation fails, and nothing is changed
 abbrev pub PartsAreEdited : Type 0
 PartsAreEdited =
     (what : ScriptEdit) (block : List ℕ) (s : Contents) (d : State) (text : List ℕ) (t : Contents) (e : State) → d.may_break ≡ false
     → IsWorkReply s d (EditPart what block) text t e
     → IsPartEdited what block s text t ⊎ ((text ≡ edit_text (Some edit.OutOfMemory)) × (t ≡ s))
 
--- the bench makes the turn of the last of these edits; or there is none, and this is the reply
+-- the bench makes the turn of the last of these edits; or there is none, this is the reply, and nothing is changed
 abbrev pub IsLastEdited : List ℕ → List PastEdit → Contents → List ℕ → Contents → Type 0
 IsLastEdited nothing edits s text t =
     ((edits ≡ []) × (t ≡ s) × (text ≡ nothing))
     ⊎ ((rest : List PastEdit) × (last : PastEdit) × (result : Result (Unit {0}) EditFault) × (edits ≡ rest ++ last ∷ [])
     × Edits result s (edit_of last.turn) t × (text ≡ edit_text (fault_in result)))
 
--- to undo is an edit of the bench
+-- undo makes an edit of the bench, or there is none to undo
 abbrev pub UndoingIsEditing : Type 0
 UndoingIsEditing =
     (s : Contents) (d : State) (text : List ℕ) (t : Contents) (e : State) → d.may_break ≡ false
     → IsWorkReply s d Undo text t e → IsLastEdited (undo_text (Err history.Nothing)) d.past.earlier s text t
 
--- to redo is an edit of the bench
+-- redo makes an edit of the bench, or there is none to redo
 abbrev pub RedoingIsEditing : Type 0
 RedoingIsEditing =
     (s : Contents) (d : State) (text : List ℕ) (t : Contents) (e : State) → d.may_break ≡ false
@@ -90,12 +90,13 @@ SessionsReply =
 
 -- ---- the start
 
--- If `--stop` names no file, work starts with edits that may not be broken off, or it does not start. Readers and writers are known
--- by numbers here.
+-- If `--stop` names no file, work does not start, or it starts with edits that cannot be broken off. Readers and writers are numbers
+-- here.
 abbrev pub WorkBeginsUnbroken : Type 0
 WorkBeginsUnbroken =
     (left held : ℕ → Option (List ℕ)) (reads writes : ℕ → Tally) (paths : Paths) (prompt : List ℕ) (lines new_lines : Lines ℕ)
     (writer new_writer status : ℕ) → paths.stop ≡ None
     → WorksOver left reads held writes paths prompt lines new_lines writer new_writer status
-    → (status ≡ 1) ⊎ ((s : Contents) × (d : State) × (t : Contents) × (e : State) × (served : Result (Unit {0}) ServeFault)
+    → ((status ≡ 1) × IsUntouched (input_of left lines) (input_of left new_lines) (held writer) (held new_writer))
+    ⊎ ((s : Contents) × (d : State) × (t : Contents) × (e : State) × (served : Result (Unit {0}) ServeFault)
     × IsWork prompt (input_of left lines) (input_of left new_lines) (held writer) (held new_writer) s d t e served × (d.may_break ≡ false))

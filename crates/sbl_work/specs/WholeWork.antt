@@ -54,7 +54,7 @@ IsWholeWork Reasons may_break external prompt input new_input held new_held stat
     ⊎ ((bytes : List ℕ) × (s : Contents) × (served : Result (Unit {0}) ServeFault) × IsOpened external bytes s
     × WorksFrom Reasons may_break bytes prompt input new_input held new_held s served × (status ≡ status_of served))
 
--- The same over lines and a writer, with the external that these name. Edits may be broken off if these name a file of `--stop`.
+-- The same over lines and a writer, with the external of these paths. Edits may be broken off if they have a file of `--stop`.
 abbrev pub WorksOver : {R W : Type 0} → (R → Option (List ℕ)) → (R → Tally) → (W → Option (List ℕ)) → (W → Tally)
     → Paths → List ℕ → Lines R → Lines R → W → W → ℕ → Type 0
 WorksOver left reads held writes paths prompt lines new_lines writer new_writer status =

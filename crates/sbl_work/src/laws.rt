@@ -2,7 +2,7 @@
 
 ghost use Rattle.sbl_work.specs.BreakLaws.{MayBreakStays, PartsAreEdited, RedoingIsEditing, SessionsReply, UndoingIsEditing, WholeScriptsAreEdited, WordsAreEdited, WorkBeginsUnbroken};
 
-/// If `--stop` names no file, edits may not be broken off at the start, no request changes that, and each edit has the reply of an edit of
+/// If `--stop` names no file, edits cannot be broken off at the start, no request changes that, and each edit has the reply of an edit of
 /// the bench.
 pub fn nothing_breaks_without_stop()
     ensures stays { MayBreakStays }
