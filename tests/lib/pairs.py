@@ -4,6 +4,7 @@
     == the title of the pair
     rows: checks.md checks.cases       the files of tests/cases that are tried first; the other .cases and .md follow
     unit: session_tests                in place of rows: a crate of tests; one of them has to fail
+    suite: breaks                      in place of rows: a script of tests/suites, which has to fail
     file: crates/NAME/specs/FILE.antt
     old: a text of the definition, which is there once
     new: the text in its place
@@ -32,7 +33,7 @@ PATIENCE = 120
 
 class Pair:
     def __init__(self, title):
-        self.title, self.rows, self.unit, self.edits = title, [], "", []
+        self.title, self.rows, self.unit, self.suite, self.edits = title, [], "", "", []
         self.name = "".join(letter if letter.isalnum() else "-" for letter in title.lower()).strip("-")
 
     def wrong(self, top=TOP):
@@ -46,6 +47,8 @@ class Pair:
         for rows in self.rows:
             if not os.path.exists(os.path.join(top, "tests", "cases", rows)):
                 wrong.append("%s: tests/cases has no file %s" % (self.title, rows))
+        if self.suite and not os.path.exists(os.path.join(top, "tests", "suites", self.suite)):
+            wrong.append("%s: tests/suites has no %s" % (self.title, self.suite))
         for part, name in (("/specs/", "definition"), ("/src/", "code")):
             if not any(part in path for path, _, _ in self.edits):
                 wrong.append("%s: it changes no %s" % (self.title, name))
@@ -74,6 +77,8 @@ def read_pairs(folder="pairs.d"):
                     pairs[-1].rows = value.split()
                 elif key == "unit":
                     pairs[-1].unit = value
+                elif key == "suite":
+                    pairs[-1].suite = value
                 elif key == "file":
                     texts = [value, "", ""]
                 elif key in ("old", "new"):
@@ -196,6 +201,8 @@ def try_pair(pair, cases, names, sources):
         program = made.stdout.strip()
         if made.returncode or not program:
             return pair, "no program: " + made.stderr[-400:]
+        if pair.suite:
+            return pair, keep(kept, try_suite(pair.suite, program))
         seen = "unseen"
         for case in cases.in_order(pair.rows):
             if not is_right(program, case):
@@ -211,6 +218,12 @@ def try_unit(crate):
         return "no tests: " + done[-400:]
     failed = [line.split()[1] for line in done.split("\n") if line.startswith("test ") and line.endswith("... FAILED")]
     return "seen by the test %s" % failed[0] if failed else "unseen"
+
+
+def try_suite(name, program):
+    """Runs a script of tests/suites with a program."""
+    done = subprocess.run([os.path.join(TOP, "tests", "suites", name), program], stdout=subprocess.PIPE, stderr=subprocess.STDOUT, text=True, check=False)
+    return "seen by tests/suites/%s" % name if done.returncode else "unseen"
 
 
 def keep(kept, seen):

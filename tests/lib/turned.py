@@ -80,7 +80,7 @@ fn main(rt: HostRuntime) -> io::Result<()> {
 
 
 def equations(path):
-    """Yields the head of each equation of a file: what is before its ` = `, with the branches of an `elim`."""
+    """Yields the head of each equation of a file: what is before its ` = `, and each branch of an `elim`."""
     with open(os.path.join(TOP, path), encoding="utf-8") as file:
         for line in file:
             line = line.rstrip("\n")
@@ -89,6 +89,8 @@ def equations(path):
             found = re.match(r" {0,2}((?:[a-z_A-Z.]+ )[^=]*?|[a-z_]+) =( |$)", line) or re.match(r"  (\| .*) ↦ ", line)
             if found:
                 yield found[1]
+                if "elim" in line and " = " in line:
+                    yield from ("%s | %s" % (found[1].split()[0], branch) for branch in re.findall(r"[\[|] ([^\[\]|↦]+) ↦ ", line))
 
 
 def uncovered(pairs):
@@ -103,7 +105,8 @@ def uncovered(pairs):
     for path in EQUATIONS:
         for head in equations(path):
             known.add(head)
-            if head not in plain and not any(text.startswith(head + " ") for text in texts.get(path, [])):
+            seen = head.partition(" | ")[2] + " ↦ "
+            if head not in plain and not any(text.startswith(head + " ") or (" | " in head and seen in text) for text in texts.get(path, [])):
                 missing.append("%s: %s" % (os.path.basename(path), head))
     return missing, sorted(plain - known)
 
