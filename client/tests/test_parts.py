@@ -141,6 +141,10 @@ class Others(Case):
         events = rows.read("events", ["call,0,stem", "refused,Slice"])
         self.assertEqual(reports.why("a", events, figures, Places("", b"", b"", [], []), False)[-1], "  refused  Slice in stem   1,001 steps, p1=3")
 
+    def test_equal_edits_of_history_have_numbers(self):
+        lines = reports.laid_out("history", ["done,routine,r", "done,routine,r", "undone,limit,5"], lambda: None)
+        self.assertEqual(lines, ["   1  made        routine r", "   2  made        routine r", "   3  taken back  limit 5"])
+
     def test_warnings(self):
         room = self.room(my_sbl=b"\xef\xbb\xbfexternals\n", my_words="cats \na b\n\tx\n")
         said = warn.warnings_on(os.path.join(room, "my.sbl"), os.path.join(room, "my.words"))

@@ -191,7 +191,7 @@ def returned(calls: List[Call], is_true: bool, places: Places) -> List[Line]:
 REPORTS: Dict[str, Callable[[Sequence[str]], List[str]]] = {
     "stems": stems, "find": stems, "uses": stems, "classes": classes, "class": class_of, "stem": class_of, "largest": largest, "families": families,
     "stats": lambda lines: ["{:>9,} {}".format(int(row.count), FIGURES.get(row.kind, row.kind)) for row in rows.read("stats", lines)],
-    "history": lambda lines: ["  %-10s  %s" % (FIGURES[row.kind], named(step_of(row))) for row in rows.read("history", lines)],
+    "history": lambda lines: ["  %2d  %-10s  %s" % (i, FIGURES[row.kind], named(step_of(row))) for i, row in enumerate(rows.read("history", lines), 1)],
     # (the parts of one kind on a line)
     "trace": lambda lines: [
         "  %-10s %s" % (kind + "s", ", ".join(" ".join(map(named, row[1:])) for row in part))
