@@ -52,8 +52,8 @@ def families(lines: Sequence[str]) -> List[str]:
         return [alone, *unknown]
     shown = ["  %-13s %s: %s" % (FIGURES[row.kind], named(row[1]) or "(empty)", listed(row[2])) for row in found if row.kind in ("under", "over")]
     return shown + unknown + [
-        "different stems: {:,} of {}{} within a family".format(apart, counted(within, "pair"), percent(apart, within)),
-        "the same stem:   {:,} of {}{} across families".format(joined, counted(across, "pair"), percent(joined, across)),
+        "understemmed: {:,} of {}{} within a family".format(apart, counted(within, "pair"), percent(apart, within)),
+        "overstemmed:  {:,} of {}{} across families".format(joined, counted(across, "pair"), percent(joined, across)),
     ]
 
 
