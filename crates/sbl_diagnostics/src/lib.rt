@@ -11,6 +11,7 @@ mod expectations;
 mod foreign;
 mod grammar;
 mod line_faults;
+mod misspelt;
 mod near;
 mod one_line;
 mod places;
