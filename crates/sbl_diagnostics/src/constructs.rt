@@ -5,6 +5,7 @@ use crate::declarations::{DeclaredName, declaration_of, declared_in};
 use crate::foreign::advice_on;
 use crate::grammar::{Outlook, Symbol, is_constant};
 use crate::sites::{Site, push_advice, push_text};
+use sbl_source_map::begins_item;
 use sbl_text::{Kind, Lexer, Sign, Token, Word};
 use std::alloc::{AllocError, Global};
 
@@ -170,6 +171,44 @@ pub(crate) fn push_missing_define(
         shown,
         format!(in alloc; "Before {name} define is missing.")?,
     )
+}
+
+/// Returns whether after the token at the place comes `(`, and then a word that begins an item.
+fn holds_items(alloc: Global, site: Site<'_>) -> bool {
+    let (next, second) = site.next_kinds(alloc);
+    next == Some(Kind::Sign(Sign::Open)) && is_item(second)
+}
+
+/// Returns whether an item begins with the token.
+pub(crate) fn is_item(kind: Option<Kind>) -> bool {
+    match kind {
+        Some(Kind::Word(word)) => begins_item(word),
+        _ => false,
+    }
+}
+
+/// Appends which of `backwards` and `backwardmode` is meant if the other one, or `backward`, is at the place. Returns whether it did.
+pub(crate) fn push_mode(
+    alloc: Global,
+    shown: &mut String,
+    site: Site<'_>,
+    outlook: &Outlook,
+) -> Result<bool, AllocError> {
+    let has_items = holds_items(alloc, site);
+    let is_backwards = site.is_at(Word::Backwards) || site.spot.token == "backward";
+    if is_backwards && has_items && outlook.offers(Symbol::Items) {
+        return push_advice(
+            shown,
+            "Routines in backward mode are defined in backwardmode ( .. ).",
+        );
+    }
+    if site.is_at(Word::BackwardMode) && !has_items && outlook.takes(Kind::Word(Word::Backwards)) {
+        return push_advice(
+            shown,
+            "Definitions are in backwardmode ( .. ); before a command comes backwards, as in backwards r.",
+        );
+    }
+    Ok(false)
 }
 
 /// Appends what comes among the items of a script.
