@@ -3,7 +3,7 @@
 use crate::characters::cut;
 use crate::constructs::{
     NAMES, is_item, last_definition, push_body, push_form, push_items, push_mode, push_names,
-    push_number, push_operator, push_rows, push_sums, push_terms,
+    push_number, push_operator, push_rows, push_sums, push_terms, push_truth,
 };
 use crate::declarations::{DeclaredName, declaration_of, declared_in};
 use crate::grammar::{Outlook, Symbol, outlook_after};
@@ -149,6 +149,7 @@ fn push_required(
 ) -> Result<bool, AllocError> {
     match required {
         Symbol::Command if push_number(alloc, shown, site)? => Ok(true),
+        Symbol::Factor if push_truth(alloc, shown, site)? => Ok(true),
         Symbol::Command if site.spot.kind == Some(Kind::Number) => push_loop(alloc, shown, site),
         Symbol::LoopBody => {
             push_advice(
