@@ -10,6 +10,7 @@ mod encodings;
 mod expectations;
 mod foreign;
 mod grammar;
+mod insertions;
 mod line_faults;
 mod misspelt;
 mod near;

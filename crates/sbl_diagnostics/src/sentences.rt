@@ -6,6 +6,7 @@ use crate::definitions::{push_no_definition, push_undefined, push_wrong_mode};
 use crate::encodings::push_conversion;
 use crate::expectations::{push_expectation, push_use};
 use crate::foreign::{foreign_character, is_end_line, left_out_text};
+use crate::insertions::push_insertion;
 use crate::misspelt::{push_meaning, push_substring, push_word_before};
 use crate::near::{nearest_of, push_listed};
 use crate::reasons::{begins_sentence, reason};
@@ -430,6 +431,9 @@ pub(crate) fn push_sentence(
         ScriptFault::BadCharacter { .. } => push_character(shown, place),
         ScriptFault::OutOfProfile { .. } => push_left_out(alloc, shown, place),
         ScriptFault::Substring { .. } => push_substring(alloc, shown, place),
+        ScriptFault::UnclosedString { .. }
+        | ScriptFault::UnknownEscape { .. }
+        | ScriptFault::BadCode { .. } => push_insertion(alloc, shown, place),
         fault => {
             if !begins_sentence(fault) {
                 push_thing(shown, spot)?;
