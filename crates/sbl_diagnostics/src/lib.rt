@@ -3,6 +3,7 @@
 
 mod block_faults;
 mod characters;
+mod comments;
 mod constructs;
 mod declarations;
 mod definitions;

@@ -1,6 +1,7 @@
 //! What is wrong at the place of a fault, in a sentence.
 
 use crate::characters::{cut, push_cut, push_hexadecimal};
+use crate::comments::push_nested;
 use crate::declarations::{declaration_of, declared_in, kind_text, names_of};
 use crate::definitions::{push_no_definition, push_undefined, push_wrong_mode};
 use crate::encodings::push_conversion;
@@ -413,6 +414,9 @@ pub(crate) fn push_sentence(
     place: Place<'_>,
 ) -> Result<(), AllocError> {
     let Place { faulty, spot } = place;
+    if push_nested(alloc, shown, place)? {
+        return Ok(());
+    }
     match faulty.fault {
         ScriptFault::Syntax { .. } => push_syntax(alloc, shown, place),
         ScriptFault::Undeclared { .. } | ScriptFault::WrongKind { .. } => {
