@@ -81,22 +81,27 @@ fn is_of_comment(fault: ScriptFault) -> bool {
     )
 }
 
-/// Appends that the place is after the end of a comment that has another one inside it, if that is so and a `*/` is left over. Returns
-/// whether it did.
+/// Appends that the place is after the end of a comment that has another one inside it, if that is so and a `*/` is left over, or that
+/// a `*/` ends no comment. Returns whether it did.
 pub(crate) fn push_nested(
     alloc: Global,
     shown: &mut String,
     place: Place<'_>,
 ) -> Result<bool, AllocError> {
     let Place { faulty, spot } = place;
-    if !is_of_comment(faulty.fault) || !has_end(faulty.text.get(spot.begin..).unwrap_or(&[])) {
+    let rest = faulty.text.get(spot.begin..).unwrap_or(&[]);
+    if !is_of_comment(faulty.fault) || !has_end(rest) {
         return Ok(false);
     }
     let Some(tokens) = tokens_before(alloc, faulty.text, spot.begin) else {
         return Ok(false);
     };
     let Some(begin) = nested_before(faulty.text, &tokens, spot.begin) else {
-        return Ok(false);
+        if !rest.starts_with(b"*/") {
+            return Ok(false);
+        }
+        shown.push_str("this */ ends no comment: take it away, or put /* before it")?;
+        return Ok(true);
     };
     let Position { line, column } = position_of(faulty.text, begin);
     let text = format!(in alloc;

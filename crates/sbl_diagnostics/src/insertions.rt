@@ -41,25 +41,27 @@ fn inserts_at(alloc: Global, place: Place<'_>) -> Option<Inserts> {
     }
 }
 
-/// Returns where an insertion begins, in a text that begins with a literal or an insertion, that has no end or white space in its name.
-/// (An insertion of white space alone is one.)
+/// Returns where an insertion begins, in a text that begins with a literal or an insertion, that has no end, or whose name has white space
+/// and a quote or the end of a line.
 fn open_insertion(text: &str, inserts: Inserts) -> Option<usize> {
     let mut begin = None;
-    let mut has_name = false;
+    let (mut has_blank, mut has_end) = (false, false);
     let mut at: usize = 0;
     for character in text.chars() {
+        let is_end = character == '\'' || character == '\n';
         if begin.is_some() {
+            has_blank = has_blank || character.is_whitespace();
+            has_end = has_end || is_end;
             if character == inserts.closing {
                 begin = None;
-            } else if !character.is_whitespace() {
-                has_name = true;
-            } else if has_name {
+            } else if has_blank && has_end {
                 return begin;
             }
         } else if character == inserts.opening {
             begin = Some(at);
-            has_name = false;
-        } else if at > 0 && (character == '\'' || character == '\n') {
+            has_blank = false;
+            has_end = false;
+        } else if at > 0 && is_end {
             return None;
         }
         at = at.saturating_add(character.len_utf8());
