@@ -131,6 +131,20 @@ class Others(Case):
         lines = reports.why("cats", events, rows.read("integers", ["steps,5"]), places)
         self.assertEqual(lines[1:3], ["  r     'x' is false   my.sbl:1:13", "  stem  r is false"])
 
+    def test_steps_of_a_run_that_is_refused_for_them(self):
+        figures = rows.read("integers", ["steps,1001", "integer,p1,3"])
+        self.assertEqual(reports.values(figures, True), "more than 1,000 steps, p1=3")
+        self.assertEqual(reports.values(figures), "1,001 steps, p1=3")
+        self.assertEqual(reports.values(rows.read("integers", ["steps,2"]), True), "more than 1 step")
+        events = rows.read("events", ["call,0,stem", "refused,Steps"])
+        self.assertEqual(reports.why("a", events, figures, Places("", b"", b"", [], []), False)[-1], "  refused  Steps in stem   more than 1,000 steps, p1=3")
+        events = rows.read("events", ["call,0,stem", "refused,Slice"])
+        self.assertEqual(reports.why("a", events, figures, Places("", b"", b"", [], []), False)[-1], "  refused  Slice in stem   1,001 steps, p1=3")
+
+    def test_equal_edits_of_history_have_numbers(self):
+        lines = reports.laid_out("history", ["done,routine,r", "done,routine,r", "undone,limit,5"], lambda: None)
+        self.assertEqual(lines, ["   1  made        routine r", "   2  made        routine r", "   3  taken back  limit 5"])
+
     def test_warnings(self):
         room = self.room(my_sbl=b"\xef\xbb\xbfexternals\n", my_words="cats \na b\n\tx\n")
         said = warn.warnings_on(os.path.join(room, "my.sbl"), os.path.join(room, "my.words"))

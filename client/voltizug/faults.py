@@ -57,7 +57,7 @@ def advice(line: str, source: str, carets: str, text: bytes) -> str:
     if line.endswith(" the name that is inserted here") and "^" in carets:
         name = source[carets.index("^") + 1 :].partition("}")[0]
         names = re.findall(r"\bstringdef\s+(\S+)", text.decode("utf-8", "replace"))
-        return ". A } is missing, perhaps" if " " in name else "." * bool(near(name, names)) + meant(name, names)
+        return "." * bool(near(name, names)) + meant(name, names)
     unknown = re.search(r": (\w+) is not declared\. Declare it\b.*, or use another name\.\Z", line)
     if unknown and re.search(r"(\[\s*|<-\s*|<\+\s*)%s\b" % unknown[1], source):
         return " If letters are meant: '%s'." % short(unknown[1])

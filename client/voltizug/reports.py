@@ -52,14 +52,15 @@ def families(lines: Sequence[str]) -> List[str]:
         return [alone, *unknown]
     shown = ["  %-13s %s: %s" % (FIGURES[row.kind], named(row[1]) or "(empty)", listed(row[2])) for row in found if row.kind in ("under", "over")]
     return shown + unknown + [
-        "different stems: {:,} of {}{} within a family".format(apart, counted(within, "pair"), percent(apart, within)),
-        "the same stem:   {:,} of {}{} across families".format(joined, counted(across, "pair"), percent(joined, across)),
+        "understemmed: {:,} of {}{} within a family".format(apart, counted(within, "pair"), percent(apart, within)),
+        "overstemmed:  {:,} of {}{} across families".format(joined, counted(across, "pair"), percent(joined, across)),
     ]
 
 
-def values(figures: Sequence[Any]) -> str:
-    """Returns the steps of a run, and the integer variables at its end."""
-    return ", ".join([counted(int(figures[0].count), "step"), *["%s=%s" % (row.name, row.value) for row in figures[1:]]]) if figures else ""
+def values(figures: Sequence[Any], is_spent: bool = False) -> str:
+    """Returns the steps of a run, which are one more than the limit if it was refused for them, and the integer variables at its end."""
+    steps = ["more than " * is_spent + counted(int(row.count) - is_spent, "step") for row in figures[:1]]
+    return ", ".join([*steps, *["%s=%s" % (row.name, row.value) for row in figures[1:]]])
 
 
 def unused(lines: Sequence[str], places: Places) -> List[str]:
@@ -161,7 +162,7 @@ def why(word: str, events: Sequence[Any], figures: Sequence[Any], places: Places
             name = calls[-1].name if row.kind == "refused" and calls else ""
             place = " (%s)" % places.of(name) if name and places.of(name) else ""
             where = " in %s%s" % (name, place) if name else ""
-            shown.append((row.kind, "%s%s   %s" % (named(row[1]) or "(empty)", where, values(figures)), ""))
+            shown.append((row.kind, "%s%s   %s" % (named(row[1]) or "(empty)", where, values(figures, row[:2] == ("refused", "Steps"))), ""))
         if calls:
             calls[-1].note(row)
     lines = []
@@ -190,8 +191,7 @@ def returned(calls: List[Call], is_true: bool, places: Places) -> List[Line]:
 REPORTS: Dict[str, Callable[[Sequence[str]], List[str]]] = {
     "stems": stems, "find": stems, "uses": stems, "classes": classes, "class": class_of, "stem": class_of, "largest": largest, "families": families,
     "stats": lambda lines: ["{:>9,} {}".format(int(row.count), FIGURES.get(row.kind, row.kind)) for row in rows.read("stats", lines)],
-    "history": lambda lines: ["  %-10s  %s" % (FIGURES[row.kind], named(step_of(row))) for row in rows.read("history", lines)],
-    "integers": lambda lines: ["  " + values(rows.read("integers", lines))],
+    "history": lambda lines: ["  %2d  %-10s  %s" % (i, FIGURES[row.kind], named(step_of(row))) for i, row in enumerate(rows.read("history", lines), 1)],
     # (the parts of one kind on a line)
     "trace": lambda lines: [
         "  %-10s %s" % (kind + "s", ", ".join(" ".join(map(named, row[1:])) for row in part))

@@ -179,6 +179,10 @@ class Terminal(Desk):
     def reply_events(self, word: str, lines: Sequence[str]) -> List[str]:
         return reports.events(word, rows.read("events", lines), self.bench.places())
 
+    def reply_integers(self, _: str, lines: Sequence[str]) -> List[str]:
+        figures = rows.read("integers", lines)
+        return ["  " + reports.values(figures, int(figures[0].count) > int(self.bench.program.now.limit))]
+
     def reply_tests(self, word: str, lines: Sequence[str]) -> List[str]:
         _, events, is_known = self.run_of(word, lines)
         unknown = ["The tests of this run cannot be shown: it is too long, or near a limit."]

@@ -654,7 +654,8 @@ async function showWord(isNew) {
   if (turn !== wordTurn) return;
   const all = $('word-all').checked, steps = folded(data.steps.filter(step => all || !step.minor)), bad = data.outcome[0] === '!', top = out.scrollTop, isKnown = S.words.includes(word);
   const items = steps.map(step => el('li', { class: `${step.kind}${step.minor ? ' minor' : ''}${step.kind === 'failed' || step.true === false ? ' no' : ''}` }, el('span', { class: 'who' }, step.routine), el('span', { class: 'pin' }), el('span', {}, says(step)), lineLink(step.line)));
-  const figures = data.figures.map(([name, value]) => `${name} ${number(+value)}`).join(', ');
+  const isSpent = name => name === 'steps' && data.outcome === '!Steps'; // (its number is one more than the limit)
+  const figures = data.figures.map(([name, value]) => isSpent(name) ? `more than ${number(value - 1)} steps` : `${name} ${number(+value)}`).join(', ');
   items.push(el('li', { class: 'end' + (bad ? ' no' : '') }, el('span', { class: 'who' }, bad ? 'refused' : 'stem'), el('span', { class: 'pin' }), el('span', { class: 'before' }, outcome(data.outcome), data.where ? ` in ${data.where}` : ''), el('span', { class: 'muted' }, figures)));
   $('word-add').hidden = isKnown;
   out.replaceChildren(el('div', { class: 'outcome' }, w(word), el('span', { class: 'to' }, '→'), el('span', { class: 'stem' }, outcome(data.outcome))), el('p', { class: 'say' }, wordSentence(word, data, isKnown, !steps.length)), el('ol', { class: 'time' }, items));

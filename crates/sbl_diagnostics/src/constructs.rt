@@ -5,6 +5,7 @@ use crate::declarations::{DeclaredName, declaration_of, declared_in};
 use crate::foreign::advice_on;
 use crate::grammar::{Outlook, Symbol, is_constant};
 use crate::sites::{Site, push_advice, push_text};
+use sbl_source_map::begins_item;
 use sbl_text::{Kind, Lexer, Sign, Token, Word};
 use std::alloc::{AllocError, Global};
 
@@ -35,6 +36,43 @@ pub(crate) fn push_number(
     }
 }
 
+/// Returns how a boolean is set.
+fn setting_of(alloc: Global, name: &str) -> Result<String, AllocError> {
+    format!(in alloc; "set {name} makes {name} true, unset {name} makes it false.")
+}
+
+/// Returns whether `=` is at the place, and `true` or `false` after it.
+fn sets_truth(alloc: Global, site: Site<'_>) -> bool {
+    match site.next_kinds(alloc) {
+        (Some(next), _) => site.operator() == Some(Sign::Equals) && is_truth(next),
+        _ => false,
+    }
+}
+
+/// Returns whether the token is `true` or `false`.
+fn is_truth(kind: Kind) -> bool {
+    matches!(kind, Kind::Word(Word::True | Word::False))
+}
+
+/// Appends how a boolean is set if `true` or `false` is at the place, and `=` and a name are before it.
+pub(crate) fn push_truth(
+    alloc: Global,
+    shown: &mut String,
+    site: Site<'_>,
+) -> Result<bool, AllocError> {
+    let (Some(prior), Some(kind)) = (site.prior, site.spot.kind) else {
+        return Ok(false);
+    };
+    if prior.kind != Kind::Name
+        || site.last_kind() != Some(Kind::Sign(Sign::Equals))
+        || !is_truth(kind)
+    {
+        return Ok(false);
+    }
+    let name = cut(alloc, prior.text)?;
+    push_text(shown, setting_of(alloc, name.as_str())?)
+}
+
 /// Appends how the name before a sign is set or compared.
 pub(crate) fn push_operator(
     alloc: Global,
@@ -54,9 +92,10 @@ pub(crate) fn push_operator(
         Some(prior) if role == Some(Symbol::Name) => prior.kind,
         _ => last.kind,
     };
-    let is_integer = match declaration_of(declared, name) {
-        Some(declared) => declared.word == Word::Integers,
-        None => true,
+    let kind = match declaration_of(declared, name) {
+        Some(declared) => declared.word,
+        None if sets_truth(alloc, site) => Word::Booleans,
+        None => Word::Integers,
     };
     let is_command = match role {
         Some(symbol) => symbol.has_command(),
@@ -64,13 +103,12 @@ pub(crate) fn push_operator(
     };
     let name = cut(alloc, name)?;
     let sentence = match word {
-        Kind::Word(Word::Set | Word::Unset) => {
-            format!(in alloc; "set {name} makes {name} true, unset {name} makes it false.")?
-        }
+        Kind::Word(Word::Set | Word::Unset) => setting_of(alloc, name.as_str())?,
+        _ if is_command && kind == Word::Booleans => setting_of(alloc, name.as_str())?,
         Kind::Word(Word::SetMark) => format!(in alloc;
             "setmark {name} sets {name} to the cursor, ${name} = .. to another number."
         )?,
-        _ if is_command && is_integer => {
+        _ if is_command && kind == Word::Integers => {
             format!(in alloc; "Before the name of an integer comes $: ${name} {sign_text} ..")?
         }
         _ => return Ok(false),
@@ -170,6 +208,44 @@ pub(crate) fn push_missing_define(
         shown,
         format!(in alloc; "Before {name} define is missing.")?,
     )
+}
+
+/// Returns whether after the token at the place comes `(`, and then a word that begins an item.
+fn holds_items(alloc: Global, site: Site<'_>) -> bool {
+    let (next, second) = site.next_kinds(alloc);
+    next == Some(Kind::Sign(Sign::Open)) && is_item(second)
+}
+
+/// Returns whether an item begins with the token.
+pub(crate) fn is_item(kind: Option<Kind>) -> bool {
+    match kind {
+        Some(Kind::Word(word)) => begins_item(word),
+        _ => false,
+    }
+}
+
+/// Appends which of `backwards` and `backwardmode` is meant if the other one, or `backward`, is at the place. Returns whether it did.
+pub(crate) fn push_mode(
+    alloc: Global,
+    shown: &mut String,
+    site: Site<'_>,
+    outlook: &Outlook,
+) -> Result<bool, AllocError> {
+    let has_items = holds_items(alloc, site);
+    let is_backwards = site.is_at(Word::Backwards) || site.spot.token == "backward";
+    if is_backwards && has_items && outlook.offers(Symbol::Items) {
+        return push_advice(
+            shown,
+            "Routines in backward mode are defined in backwardmode ( .. ).",
+        );
+    }
+    if site.is_at(Word::BackwardMode) && !has_items && outlook.takes(Kind::Word(Word::Backwards)) {
+        return push_advice(
+            shown,
+            "Definitions are in backwardmode ( .. ); before a command comes backwards, as in backwards r.",
+        );
+    }
+    Ok(false)
 }
 
 /// Appends what comes among the items of a script.

@@ -2,8 +2,8 @@
 
 use crate::characters::cut;
 use crate::constructs::{
-    NAMES, last_definition, push_body, push_form, push_items, push_names, push_number,
-    push_operator, push_rows, push_sums, push_terms,
+    NAMES, is_item, last_definition, push_body, push_form, push_items, push_mode, push_names,
+    push_number, push_operator, push_rows, push_sums, push_terms, push_truth,
 };
 use crate::declarations::{DeclaredName, declaration_of, declared_in};
 use crate::grammar::{Outlook, Symbol, outlook_after};
@@ -149,6 +149,7 @@ fn push_required(
 ) -> Result<bool, AllocError> {
     match required {
         Symbol::Command if push_number(alloc, shown, site)? => Ok(true),
+        Symbol::Factor if push_truth(alloc, shown, site)? => Ok(true),
         Symbol::Command if site.spot.kind == Some(Kind::Number) => push_loop(alloc, shown, site),
         Symbol::LoopBody => {
             push_advice(
@@ -206,14 +207,6 @@ fn push_inside(
     }
 }
 
-/// Returns whether the token at the place begins an item.
-fn is_item(site: Site<'_>) -> bool {
-    match site.spot.kind {
-        Some(Kind::Word(word)) => begins_item(word),
-        _ => false,
-    }
-}
-
 /// Appends what can come at the place of a token that cannot come after these tokens, or at the end of the text. Returns whether it
 /// did: it does not if no sentence is sure to fit.
 pub(crate) fn push_expectation(
@@ -226,11 +219,14 @@ pub(crate) fn push_expectation(
         return Ok(false);
     };
     let declared = declared_in(alloc, site.faulty.script)?;
-    if push_operator(alloc, shown, site, outlook.role, &declared)? {
+    if push_operator(alloc, shown, site, outlook.role, &declared)?
+        || push_mode(alloc, shown, site, &outlook)?
+    {
         return Ok(true);
     }
+    let is_over = is_item(site.spot.kind) || site.spot.token.is_empty();
     match outlook.first_required() {
-        Some(Symbol::Close) | None if is_item(site) || site.spot.token.is_empty() => Ok(false),
+        Some(Symbol::Close) | None if is_over => Ok(false),
         Some(Symbol::Close) | None => {
             push_inside(alloc, shown, site, &outlook, tokens, &declared)
         }

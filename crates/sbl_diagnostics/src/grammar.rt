@@ -357,6 +357,19 @@ impl Outlook {
         Ok(false)
     }
 
+    /// Returns whether the token can come next.
+    pub(crate) fn takes(&self, kind: Kind) -> bool {
+        for symbol in self.stack.iter().rev() {
+            if after(*symbol, kind).is_some() {
+                return true;
+            }
+            if !symbol.is_optional() {
+                return false;
+            }
+        }
+        false
+    }
+
     /// Returns the first expected symbol that may not be empty, if there is one.
     pub(crate) fn first_required(&self) -> Option<Symbol> {
         for symbol in self.stack.iter().rev() {

@@ -3,6 +3,7 @@
 
 mod block_faults;
 mod characters;
+mod comments;
 mod constructs;
 mod declarations;
 mod definitions;
@@ -10,7 +11,9 @@ mod encodings;
 mod expectations;
 mod foreign;
 mod grammar;
+mod insertions;
 mod line_faults;
+mod misspelt;
 mod near;
 mod one_line;
 mod places;

@@ -1,14 +1,17 @@
 //! What is wrong at the place of a fault, in a sentence.
 
 use crate::characters::{cut, push_cut, push_hexadecimal};
+use crate::comments::push_nested;
 use crate::declarations::{declaration_of, declared_in, kind_text, names_of};
 use crate::definitions::{push_no_definition, push_undefined, push_wrong_mode};
 use crate::encodings::push_conversion;
 use crate::expectations::{push_expectation, push_use};
-use crate::foreign::{advice_on, foreign_character, is_end_line, left_out_text};
-use crate::near::{nearest_of, push_listed, push_near_word};
+use crate::foreign::{foreign_character, is_end_line, left_out_text};
+use crate::insertions::push_insertion;
+use crate::misspelt::{push_meaning, push_substring, push_word_before};
+use crate::near::{nearest_of, push_listed};
 use crate::reasons::{begins_sentence, reason};
-use crate::sites::{Site, push_advice};
+use crate::sites::Site;
 use crate::undeclared::push_undeclared;
 use sbl_script::Part;
 use sbl_source_map::{Position, ScriptFault, begins_item, position_of};
@@ -221,23 +224,6 @@ fn push_clause(
     push_cure(alloc, shown, place, before, is_outside)
 }
 
-/// Appends what a name may be meant for that is not declared. Returns whether it did.
-fn push_meaning(
-    alloc: Global,
-    shown: &mut String,
-    faulty: Faulty<'_>,
-    name: &str,
-) -> Result<bool, AllocError> {
-    let declared = declared_in(alloc, faulty.script)?;
-    if declaration_of(&declared, name).is_some() {
-        return Ok(false);
-    }
-    match advice_on(alloc, faulty.script, name) {
-        Some(advice) => push_advice(shown, advice),
-        None => push_near_word(alloc, shown, name),
-    }
-}
-
 /// Appends what can come in place of a token, if that is sure.
 fn push_cure(
     alloc: Global,
@@ -247,11 +233,14 @@ fn push_cure(
     is_outside: bool,
 ) -> Result<(), AllocError> {
     let Place { faulty, spot } = place;
-    if spot.kind == Some(Kind::Name) && push_meaning(alloc, shown, faulty, spot.token)? {
-        return Ok(());
-    }
     if let Some(before) = before {
-        if push_expectation(alloc, shown, Site::new(faulty, before, spot), before)? {
+        let site = Site::new(faulty, before, spot);
+        if spot.kind == Some(Kind::Name) && push_meaning(alloc, shown, site, before)? {
+            return Ok(());
+        }
+        if push_word_before(alloc, shown, site, before)?
+            || push_expectation(alloc, shown, site, before)?
+        {
             return Ok(());
         }
     }
@@ -425,6 +414,9 @@ pub(crate) fn push_sentence(
     place: Place<'_>,
 ) -> Result<(), AllocError> {
     let Place { faulty, spot } = place;
+    if push_nested(alloc, shown, place)? {
+        return Ok(());
+    }
     match faulty.fault {
         ScriptFault::Syntax { .. } => push_syntax(alloc, shown, place),
         ScriptFault::Undeclared { .. } | ScriptFault::WrongKind { .. } => {
@@ -442,6 +434,10 @@ pub(crate) fn push_sentence(
         ScriptFault::NotUtf8 => push_byte(shown, faulty, spot.begin),
         ScriptFault::BadCharacter { .. } => push_character(shown, place),
         ScriptFault::OutOfProfile { .. } => push_left_out(alloc, shown, place),
+        ScriptFault::Substring { .. } => push_substring(alloc, shown, place),
+        ScriptFault::UnclosedString { .. }
+        | ScriptFault::UnknownEscape { .. }
+        | ScriptFault::BadCode { .. } => push_insertion(alloc, shown, place),
         fault => {
             if !begins_sentence(fault) {
                 push_thing(shown, spot)?;

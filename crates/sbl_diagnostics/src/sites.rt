@@ -3,8 +3,8 @@
 use crate::characters::push_named;
 use crate::grammar::{begins_command, is_operator};
 use crate::sentences::{Faulty, Spot};
-use sbl_text::{Kind, Sign, Token, Word};
-use std::alloc::AllocError;
+use sbl_text::{Kind, Lexer, Sign, Token, Word};
+use std::alloc::{AllocError, Global};
 
 /// A token before the place of a fault.
 #[derive(Clone, Copy)]
@@ -84,12 +84,33 @@ impl<'a> Site<'a> {
         }
     }
 
+    /// Returns the kinds of the two tokens after the one at the place.
+    pub(crate) fn next_kinds(self, alloc: Global) -> (Option<Kind>, Option<Kind>) {
+        let rest = self.faulty.text.get(self.spot.begin..).unwrap_or(&[]);
+        let Ok(rest) = str::from_utf8(rest) else {
+            return (None, None);
+        };
+        let mut lexer = Lexer::new(alloc, rest);
+        let _ = next_kind(&mut lexer);
+        let next = next_kind(&mut lexer);
+        let second = next_kind(&mut lexer);
+        (next, second)
+    }
+
     /// Returns whether a command can begin with the token at the place.
     pub(crate) fn has_command(self) -> bool {
         match self.spot.kind {
             Some(kind) => begins_command(kind),
             None => false,
         }
+    }
+}
+
+/// Returns the kind of the next token, if there is one and it can be read.
+fn next_kind(lexer: &mut Lexer<'_>) -> Option<Kind> {
+    match lexer.next() {
+        Ok(Some(token)) => Some(token.kind),
+        _ => None,
     }
 }
 

@@ -5,7 +5,7 @@ use crate::declarations::{DeclaredName, declaration_of, names_of};
 use crate::definitions::is_at_terms;
 use crate::foreign::advice_on;
 use crate::grammar::is_operator;
-use crate::near::{push_near, push_near_command};
+use crate::near::{push_near, push_near_word};
 use crate::sentences::{Faulty, Place, tokens_before};
 use sbl_script::Part;
 use sbl_text::{Kind, Sign, Token, Word};
@@ -201,6 +201,19 @@ fn push_declaration(
     shown.push_str(text.as_str())
 }
 
+/// Appends how to declare a name as a grouping, or how to write its characters.
+fn push_term(
+    alloc: Global,
+    shown: &mut String,
+    place: Place<'_>,
+    need: Need,
+) -> Result<(), AllocError> {
+    let rest = ", or put characters in quotes: '";
+    push_declaration(alloc, shown, place, need, " Declare", rest)?;
+    push_cut(shown, place.spot.token)?;
+    shown.push_str("'")
+}
+
 /// Appends what may be meant by a name or how to declare it.
 fn push_way_out(
     alloc: Global,
@@ -219,22 +232,14 @@ fn push_way_out(
         return Ok(());
     }
     if is_at_terms(alloc, place) {
-        push_declaration(
-            alloc,
-            shown,
-            place,
-            need,
-            " Declare",
-            ", or put characters in quotes: '",
-        )?;
-        push_cut(shown, name)?;
-        return shown.push_str("'");
+        return push_term(alloc, shown, place, need);
     }
     if let Some(advice) = advice_on(alloc, faulty.script, name) {
         shown.push_str(" ")?;
         return shown.push_str(advice);
     }
-    if need.usage == Usage::Command && push_near_command(alloc, shown, name)? {
+    let before = tokens_before(alloc, faulty.text, spot.begin).unwrap_or(Vec::new(alloc));
+    if push_near_word(alloc, shown, name, &before, faulty.part)? {
         return push_declaration(alloc, shown, place, need, " If not, declare", ".");
     }
     push_declaration(

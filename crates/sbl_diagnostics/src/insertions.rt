@@ -1,0 +1,99 @@
+//! An insertion of a literal that has no closing character.
+
+use crate::reasons::reason;
+use crate::sentences::Place;
+use sbl_source_map::{Position, ScriptFault, position_of};
+use sbl_text::{Inserts, Kind, Lexer};
+use std::alloc::{AllocError, Global};
+
+/// Returns the two characters of a token as insert characters.
+fn inserts_of(text: &str) -> Option<Inserts> {
+    let mut characters = text.chars();
+    let opening = characters.next()?;
+    let closing = characters.next()?;
+    Some(Inserts { opening, closing })
+}
+
+/// Returns the insert characters that hold after the tokens of a text, if there are some. The text may end in a literal.
+fn inserts_after(alloc: Global, text: &[u8]) -> Option<Inserts> {
+    let Ok(text) = str::from_utf8(text) else {
+        return None;
+    };
+    let mut lexer = Lexer::new(alloc, text);
+    let mut found = None;
+    for _ in 0..text.len() {
+        let Ok(Some(token)) = lexer.next() else {
+            return found;
+        };
+        if token.kind == Kind::Inserts {
+            found = inserts_of(token.text);
+        }
+    }
+    found
+}
+
+/// Returns the insert characters that hold at a place: in a typed block those of the script.
+fn inserts_at(alloc: Global, place: Place<'_>) -> Option<Inserts> {
+    let Place { faulty, spot } = place;
+    match faulty.part {
+        Some(_) => inserts_after(alloc, faulty.script),
+        None => inserts_after(alloc, faulty.text.get(..spot.begin).unwrap_or(faulty.text)),
+    }
+}
+
+/// Returns where an insertion begins, in a text that begins with a literal or an insertion, that has no end, or whose name has white space
+/// and a quote or the end of a line.
+fn open_insertion(text: &str, inserts: Inserts) -> Option<usize> {
+    let mut begin = None;
+    let (mut has_blank, mut has_end) = (false, false);
+    let mut at: usize = 0;
+    for character in text.chars() {
+        let is_end = character == '\'' || character == '\n';
+        if begin.is_some() {
+            has_blank = has_blank || character.is_whitespace();
+            has_end = has_end || is_end;
+            if character == inserts.closing {
+                begin = None;
+            } else if has_blank && has_end {
+                return begin;
+            }
+        } else if character == inserts.opening {
+            begin = Some(at);
+            has_blank = false;
+            has_end = false;
+        } else if at > 0 && is_end {
+            return None;
+        }
+        at = at.saturating_add(character.len_utf8());
+    }
+    begin
+}
+
+/// Appends what is wrong with a literal or an insertion: that the closing character is missing, if that is so.
+pub(crate) fn push_insertion(
+    alloc: Global,
+    shown: &mut String,
+    place: Place<'_>,
+) -> Result<(), AllocError> {
+    let Place { faulty, spot } = place;
+    let rest = str::from_utf8(faulty.text.get(spot.begin..).unwrap_or(&[])).unwrap_or("");
+    let Some(inserts) = inserts_at(alloc, place) else {
+        return shown.push_str(reason(faulty.fault));
+    };
+    let closing = inserts.closing;
+    match (open_insertion(rest, inserts), faulty.fault) {
+        (Some(0), ScriptFault::UnknownEscape { .. } | ScriptFault::BadCode { .. }) => {
+            shown.push_str("the insertion that begins here has no closing ")?;
+            shown.push(closing)
+        }
+        (Some(length), ScriptFault::UnclosedString { .. }) => {
+            let begin = spot.begin.saturating_add(length);
+            let Position { line, column } = position_of(faulty.text, begin);
+            let text = format!(in alloc;
+                "the insertion that begins at {line}:{column} has no closing {closing}"
+            )?;
+            shown.push_str(text.as_str())
+        }
+        _ => shown.push_str(reason(faulty.fault)),
+    }
+}
