@@ -10,10 +10,10 @@ use Rattle.sbl_ast.specs.declared.tree.Naming.TheVariants as namings
 use Rattle.sbl_token.specs.Lexemes.{Lexeme, word, name}
 use Rattle.sbl_token.specs.declared.words.Word.TheVariants as words
 use Rattle.sbl_ast.specs.Places.{placed_expression, tokens}
-use Rattle.sbl_ast.specs.Tree.{Argument, written_out, by_name, Expression, Entry, entry, Command, bracket, simple_, name_}
+use Rattle.sbl_ast.specs.Tree.{Argument, written_out, by_name, Expression, Entry, entry, Command, bracket, simple_, literal_, name_}
 use Rattle.sbl_ast.specs.Tree.{non_, prefixed, counted, move_, named, splice_, setlimit_, assign_, compare_, compare_values_}
 use Rattle.sbl_ast.specs.Tree.{among_, Rows, no_rows, row, Others, no_others, joined, Starter, no_starter, starter, Groups, bare}
-use Rattle.sbl_ast.specs.Tree.{group, Term, term, Plain, declaration, routine, grouping, Item}
+use Rattle.sbl_ast.specs.Tree.{group, Term, term, Plain, declaration, escapes, macro, routine, grouping, Item}
 use Rattle.sbl_ast.specs.Order.{ItemInMode, in_order}
 use Rattle.sbl_ast.specs.declared.mode.Mode.TheVariants.{Backward}
 use Rattle.sbl_resolver.specs.declared.occurrences.Use.{Use}
