@@ -225,11 +225,11 @@ fn push_clause(
 }
 
 /// Appends what can come in place of a token, if that is sure.
-fn push_cure(
+fn push_cure<'a>(
     alloc: Global,
     shown: &mut String,
-    place: Place<'_>,
-    before: Option<&[Token<'_>]>,
+    place: Place<'a>,
+    before: Option<&[Token<'a>]>,
     is_outside: bool,
 ) -> Result<(), AllocError> {
     let Place { faulty, spot } = place;
