@@ -192,11 +192,11 @@ fn push_syntax(alloc: Global, shown: &mut String, place: Place<'_>) -> Result<()
 }
 
 /// Appends that a token cannot follow these, cannot begin the text or is missing, and what can come there.
-fn push_clause(
+fn push_clause<'a>(
     alloc: Global,
     shown: &mut String,
-    place: Place<'_>,
-    before: Option<&[Token<'_>]>,
+    place: Place<'a>,
+    before: Option<&[Token<'a>]>,
 ) -> Result<(), AllocError> {
     let Place { faulty, spot } = place;
     let (begins, open) = match before {
