@@ -88,12 +88,24 @@ class Real(OverProgram):
 
     def test_broken_off_in_a_loop(self):
         program = self.begin("externals ( stem )\nroutines ( r )\ndefine r as true\ndefine stem as r\n", "".join("w%d\n" % i for i in range(30000)))
+        self.assertTrue(program.ask(["routine r", "false", "."]).is_done)
+        process = program.process
         threading.Timer(0.2, program.break_off).start()
         begin = time.monotonic()
-        self.assertEqual(program.ask(["routine r", "repeat true", "."]).state, BROKEN)
+        self.assertEqual(program.ask(["routine r", "repeat true", "."]).lines, ["no 68 BrokenOff"])
         self.assertLess(time.monotonic() - begin, 2)
-        self.assertTrue(program.begin_anew())
+        self.assertEqual((program.process, os.path.exists(program.stop_path)), (process, False))
+        self.assertEqual(program.ask(["history"]).lines, ["done,routine,r"])
         self.assertEqual(program.ask(["class w1"]).lines, ["w1,w1"])
+
+    def test_a_report_that_is_broken_off(self):
+        program = self.begin(LOOP, "".join("x%d\n" % i for i in range(300)))
+        self.assertTrue(program.ask(["limit 1000000"]).is_done)
+        program.now = program.now._replace(limit="1000000")
+        threading.Timer(0.2, program.break_off).start()
+        self.assertEqual(program.ask(["counts"]).state, BROKEN)
+        self.assertTrue(program.begin_anew())
+        self.assertEqual(program.ask(["class x1"]).lines, ["x1,refused,Steps"])
 
     def test_a_long_name_on_standard_error(self):
         program = self.begin(LOOP)

@@ -7,7 +7,7 @@ from typing import Any, Callable, Dict, List, NamedTuple, Optional, Sequence, Se
 from . import rows
 from .kept import FileState, Kept, is_same, read_file, state_of
 from .places import LARGEST, Places
-from .program import BROKEN, DONE, ENDED, USUAL_LIMIT, Memory, Moment, Program, Reply
+from .program import BROKEN, BROKEN_OFF, DONE, ENDED, USUAL_LIMIT, Memory, Moment, Program, Reply
 
 # After so many seconds a file that is not there is gone: no editor is just saving it.
 GONE = 1
@@ -205,7 +205,7 @@ class Bench(Stage):
         # (what it changes is seen by the stems before and after it, but for an edit of what is the mark)
         is_asked = has_own and bool(self.changes or self.program.now.words != self.program.marked.words)
         history, *stems, reply = self.program.ask_each([["history"], *[["stems"]] * is_asked, lines])
-        if word == "reload" and reply.state == DONE:
+        if word == "reload" and reply.state == DONE and reply.refusal() != BROKEN_OFF:
             self.refused_text = read if reply.refusal() else None
         if not reply.is_done:
             return Edit(word, self.settled(reply), self.changes)

@@ -11,7 +11,7 @@ from .completion import Completion
 from .keys import Editor, Hangup
 from .layout import counted, in_words, short, sizes
 from .options import CALLED, Options
-from .program import BROKEN, DONE, ENDED, ROWS, Reply
+from .program import BROKEN, BROKEN_OFF, DONE, ENDED, ROWS, Reply
 from .screen import Screen
 
 # After so many lines, one after another, that are no command and came faster than one types, the rest is dropped.
@@ -167,11 +167,12 @@ class Desk:
             edits = "What you typed is kept: the next start over the same script offers it." if is_kept else "No edit is lost."
             self.screen.say("The program could not be started again. " + edits)
             raise Hangup
-        if reply.state != DONE:
+        if reply.state != DONE or reply.refusal() == BROKEN_OFF:
             # (Ctrl-C may have come again, and this is to be seen)
             self.editor.is_interrupted = False
+        if reply.state != DONE:
             done = "The last command was not done: type it again." if reply.state == ENDED else "It was broken off. Nothing changed."
-            self.screen.say(done + " undo goes back to the mark at most.")
+            self.screen.say(done + " For undo the edits since the mark are one now.")
         return reply.state == DONE
 
     def tell_restart(self, reply: Reply) -> None:
@@ -192,7 +193,7 @@ class Desk:
         code, name = reply.refusal() or (0, "")
         self.show_fault(reply.said, lines)
         said = words.sentence(reply, lines, self.bench)
-        if lines[0] in ("reload", "words"):
+        if lines[0] in ("reload", "words") and code != BROKEN_OFF[0]:
             self.warn(self.bench.words if lines[0] == "words" else None)
         if lines[0] == "reload":
             said = "Nothing changed. " + self.correction(self.bench.script) if code == 48 else said

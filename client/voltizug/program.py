@@ -7,8 +7,11 @@ import subprocess
 import time
 from typing import IO, Callable, List, NamedTuple, Optional, Sequence, Tuple
 
-# After how many seconds a request is said to take long; how often it is looked at the time meanwhile; the most bytes of a line.
-LONG, LOOK, LONGEST = 2.0, 0.2, 65536
+# After how many seconds a request is said to take long; how often it is looked at the time meanwhile; how long an edit may take to break off;
+# the most bytes of a line.
+LONG, LOOK, GRACE, LONGEST = 2.0, 0.2, 5.0, 65536
+# The commands that the program breaks off itself, and how it refuses them then.
+EDITS, BROKEN_OFF = ("replace", "reload", "routine", "among", "grouping", "limit", "words", "undo", "redo"), (68, "BrokenOff")
 USUAL_LIMIT = "100000"
 # How a request ended: with its answer; the program ended; somebody broke it off; its time was up.
 DONE, ENDED, BROKEN, LATE = "done", "ended", "broken", "late"
@@ -65,7 +68,7 @@ class Program:
 
     def __init__(self, command: Sequence[str], script: str, words: Optional[str], room: str, bell: Optional[Tuple[int, int]] = None):
         self.command, self.script, self.words = list(command), script, words
-        self.copy_path = os.path.join(room, "script")
+        self.copy_path, self.stop_path = os.path.join(room, "script"), os.path.join(room, "stop") if room else ""
         # (a line that no report has)
         self.mark = "end of answer %d-%s" % (os.getpid(), os.urandom(8).hex())
         self.process: Optional[subprocess.Popen] = None
@@ -91,6 +94,8 @@ class Program:
 
     def begin(self, options: Sequence[str], script: str) -> None:
         self.stop()
+        self.set_stop(False)
+        options = [*options, *(["--stop", self.stop_path] if self.stop_path else [])]
         pipe, words = subprocess.PIPE, [*self.command, *options, "--", script, *([self.words] if self.words else [])]
         # (with its signals as they are here, a write to a file that may not grow fails, and ends nothing)
         self.process = subprocess.Popen(
@@ -113,6 +118,15 @@ class Program:
         with contextlib.suppress(BlockingIOError):
             os.write(self.bell[1], b"!")
 
+    def hush(self) -> None:
+        with contextlib.suppress(BlockingIOError):
+            os.read(self.bell[0], 1 << 16)
+
+    def set_stop(self, is_there: bool) -> None:
+        """Makes the file at which an edit is broken off, or takes it away."""
+        with contextlib.suppress(OSError):
+            open(self.stop_path, "w").close() if is_there else os.remove(self.stop_path)
+
     def ask(self, lines: Sequence[str], patience: Optional[float] = None) -> Reply:
         return self.ask_each([lines], patience)[0]
 
@@ -123,19 +137,20 @@ class Program:
         if any(len(encoded(line)) > LONGEST for lines in requests for line in lines):
             return [Reply(DONE, ["no 72 LineTooLong"], [])] * len(requests)
         sent = "".join("%s\n" % line for lines in requests for line in [*lines, "echo " + self.mark])
-        with contextlib.suppress(BlockingIOError):
-            os.read(self.bell[0], 1 << 16)
-        self.state, out, said = self.exchange(encoded(sent), len(requests), patience, is_deaf or self.is_deaf)
+        self.hush()
+        grace = GRACE if self.stop_path and requests[-1][0].partition(" ")[0] in EDITS else 0
+        self.state, out, said = self.exchange(encoded(sent), len(requests), patience, is_deaf or self.is_deaf, grace)
         if self.state in (BROKEN, LATE):
             self.stop()
         answers = out.split(encoded(self.mark + "\n"))[:-1]
         replies = [Reply(DONE, lines_of(answer), lines_of(said)) for answer in answers]
         return replies + [Reply(self.state, [], lines_of(said))] * (len(requests) - len(answers))
 
-    def exchange(self, sent: bytes, wanted: int, patience: Optional[float], is_deaf: bool) -> Tuple[str, bytearray, bytearray]:
-        """Sends bytes and takes what comes, up to so many marks. Returns how that ended, and what came from both pipes."""
+    def exchange(self, sent: bytes, wanted: int, patience: Optional[float], is_deaf: bool, grace: float) -> Tuple[str, bytearray, bytearray]:
+        """Sends bytes and takes what comes, up to so many marks. Returns how that ended, and what came from both pipes. After the bell an edit may
+        take so many seconds to break off, or until the bell rings again."""
         process, mark, begin = self.process, b"%s\n" % self.mark.encode(), time.monotonic()
-        left, out, said, state, on_long = memoryview(sent), bytearray(), bytearray(), "", self.on_long
+        left, out, said, state, on_long, rung = memoryview(sent), bytearray(), bytearray(), "", self.on_long, 0.0
         with selectors.DefaultSelector() as selector:
             for stream in (process.stdout, process.stderr, *([] if is_deaf else [self.bell[0]])):
                 selector.register(stream, selectors.EVENT_READ)
@@ -154,13 +169,21 @@ class Program:
                         selector.unregister(process.stdin)
                 if process.stderr in ready and take(process.stderr, said) == b"":
                     selector.unregister(process.stderr)
-                if self.bell[0] in ready or patience is not None and passed >= patience:
-                    state = BROKEN if self.bell[0] in ready else LATE
+                if self.bell[0] in ready and grace and not rung:
+                    rung = passed
+                    self.hush()
+                    self.set_stop(True)
+                elif self.bell[0] in ready or rung and passed - rung >= grace:
+                    state = BROKEN
+                elif patience is not None and passed >= patience:
+                    state = LATE
                 if process.stdout in ready:
                     searched = max(0, len(out) - len(mark) + 1)
                     data = take(process.stdout, out)
                     wanted -= out.count(mark, searched)
                     state = DONE if wanted <= 0 else ENDED if data == b"" else state
+        if rung:
+            self.set_stop(False)
         # (what the program said before the mark is in the pipe now)
         if state == ENDED:
             process.wait()
