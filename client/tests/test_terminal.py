@@ -55,7 +55,7 @@ class Sessions(Case):
         terminal.save(AUTHOR.replace("hop 5", "hop 4") + "// new\n")
         self.assertIn("replaced: long (undo brings it back)", terminal.enter(""))
         self.assertEqual(
-            terminal.enter("quit"), "A reload replaced what you typed (long), and no file has it: undo goes back to it, quit again drops it.",
+            terminal.enter("quit"), "A reload replaced what you typed (long), and no file has all of it: undo goes back to it, quit again drops it.",
         )
         terminal.save(AUTHOR)
         terminal.enter("")
@@ -503,7 +503,7 @@ class Traps(Case):
         terminal.save(AUTHOR.replace("define stem as backwards", "define stem as repeat do backwards"))
         time.sleep(0.5)
         begin = time.monotonic()
-        terminal.type("\x03", rb"undo goes back[^\n]*\n(.|\n)*class w$")
+        terminal.type("\x03", rb"broken off[^\n]*\n(.|\n)*class w$")
         self.assertLess(time.monotonic() - begin, 8)
         self.assertIn("w1: w1", terminal.type("1\r"))
 

@@ -95,7 +95,7 @@ class Bench(Stage):
         self.on_accepted: Callable[[], None] = lambda: None
         # The states of the files that were written here; the bytes of a text of SCRIPT that was refused; whether undo took back what SCRIPT has.
         self.written, self.refused_text, self.is_older = {}, None, False  # type: Dict[str, FileState], Optional[bytes], bool
-        # The texts that were read, by their hashes; by the hash of a text that was saved to SCRIPT, what SCRIPT had before.
+        # The texts that were read, by their hashes; by the hash of a text that was saved to SCRIPT, or that a reload replaced, what SCRIPT had before.
         self.read_texts, self.replaced = set(), {}  # type: Set[int], Dict[int, bytes]
         # The texts that a reload replaced, with the names of their edits; the words that were added; what differs from the mark; families.
         self.aside, self.added, self.changes = [], [], []  # type: List[Tuple[bytes, Tuple[str, ...]]], List[str], List[Any]
@@ -133,14 +133,15 @@ class Bench(Stage):
         return hash(text) not in self.read_texts and all(read_file(path) != text for path in (self.script, *self.written))
 
     def has_saved(self, text: bytes, now: bytes) -> bool:
-        """Whether a text was saved to SCRIPT, and a later one of SCRIPT has what that changed: its new lines, and none of those that it replaced."""
+        """Whether a later text of SCRIPT has what a text changed that was saved or replaced: its new lines, and none of those that it replaced."""
         former = self.replaced.get(hash(text))
         old, new, lines = (set(part.splitlines()) for part in (former or b"", text, now))
         return former is not None and new - old <= lines and not (old - new) & lines
 
     def put_aside(self) -> List[str]:
         """Returns the names of the typed edits that a reload replaced and that no file has."""
-        found = [names for text, names in self.aside if text != self.program.now.text and self.is_unsaved(text)]
+        now, is_filed = self.program.now.text, self.program.now.text == self.file_text
+        found = [names for text, names in self.aside if text != now and self.is_unsaved(text) and not (is_filed and self.has_saved(text, now))]
         return list(dict.fromkeys(name for names in found for name in names or ("a part of the script",)))
 
     # Asking
@@ -260,10 +261,12 @@ class Bench(Stage):
             # (what was replaced and undo takes back, the author drops)
             self.aside = [(other, names) for other, names in self.aside if other != before.text]
         if word == "reload":
+            base = self.file_text or b""
             self.note_file()
             if before.text != text and self.is_unsaved(before.text) and not self.has_saved(before.text, text):
                 aside = typed_names(history)
                 self.aside.append((before.text, aside))
+                self.replaced.setdefault(hash(before.text), base)
                 self.kept.keep("aside", before.text)
             self.read_texts.add(hash(text))
         self.keep()

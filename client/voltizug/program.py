@@ -68,7 +68,7 @@ class Program:
 
     def __init__(self, command: Sequence[str], script: str, words: Optional[str], room: str, bell: Optional[Tuple[int, int]] = None):
         self.command, self.script, self.words = list(command), script, words
-        self.copy_path, self.stop_path = os.path.join(room, "script"), os.path.join(room, "stop") if room else ""
+        self.copy_path, self.stop_path = os.path.join(room, "script"), os.path.join(room, "stop") if os.path.isdir(room) else ""
         # (a line that no report has)
         self.mark = "end of answer %d-%s" % (os.getpid(), os.urandom(8).hex())
         self.process: Optional[subprocess.Popen] = None

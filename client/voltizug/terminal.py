@@ -49,7 +49,7 @@ class Terminal(Desk):
         """Answers a line; returns whether `work` goes on."""
         line = tidy(line)
         command, _, argument = line.partition(" ")
-        if line != self.doubted:
+        if (line or "Enter") != self.doubted:
             self.doubted = ""
         if line == "quit":
             return not self.may_end()
@@ -67,7 +67,8 @@ class Terminal(Desk):
         elif line == "families" and self.bench.families and not self.editor.pending:
             self.ask("families " + self.bench.families)
         elif line in ("", "reload", "undo", "redo") or command in ("limit", "replace") and argument:
-            self.edit([line or "reload"])
+            if line or self.is_sure("Enter", self.unchanged()):
+                self.edit([line or "reload"])
         elif command in BLOCKS or line in OPEN_BLOCKS:
             self.read_block([line])
         elif definition := DEFINITION.match(line):
@@ -377,8 +378,13 @@ class Terminal(Desk):
         if bench.is_unsaved(bench.program.now.text):
             doubts.insert(0, "The edits that you typed are in no file: save FILE keeps them, quit again drops them.")
         elif aside:
-            doubts.insert(0, "A reload replaced what you typed (%s), and no file has it: undo goes back to it, quit again drops it." % aside)
+            doubts.insert(0, "A reload replaced what you typed (%s), and no file has all of it: undo goes back to it, quit again drops it." % aside)
         return self.is_sure("quit", *doubts)
+
+    def unchanged(self) -> str:
+        """Returns the sentence on a script that Enter reads again for nothing, but for what was typed; nothing if that is not so."""
+        is_typed = self.bench.script not in self.bench.saved() and self.bench.is_unsaved(self.bench.program.now.text)
+        return "%s has not changed: Enter again drops what you typed." % short(self.bench.script) if is_typed else ""
 
     def is_sure(self, line: str, *doubts: str) -> bool:
         """Whether nothing speaks against a command, or it is typed again; otherwise says what does."""

@@ -14,7 +14,7 @@ from ..kept import state_of
 from ..layout import named, short
 from ..lints import lints
 from ..places import BOM
-from ..program import DONE, Reply
+from ..program import BROKEN_OFF, DONE, ENDED, Reply
 from ..warn import warnings_on
 from ..words import Refused
 from . import ink
@@ -240,7 +240,7 @@ class Live:
             self.begun, self.origin = time.monotonic(), origin
             before, text = self.history_rows(), self.bench.program.now.text
             edit = self.bench.edit(lines)
-            if edit.reply.state != DONE:
+            if edit.reply.state != DONE or edit.reply.refusal() == BROKEN_OFF:
                 self.show_broken(edit.reply)
             elif edit.reply.refusal():
                 self.show_refusal(edit.reply, lines, origin)
@@ -275,7 +275,7 @@ class Live:
         self.begun = time.monotonic()
         self.show_outcomes()
         self.show_edit(self.bench.changes)
-        self.publish(notice="It was broken off: the script is the one of before." if reply.state == "broken" else "The program ended, and was started again.")
+        self.publish(notice="The program ended, and was started again." if reply.state == ENDED else "It was broken off: the script is the one of before.")
 
     def show_refusal(self, reply: Reply, lines: Sequence[str], origin: str) -> None:
         if (reply.refusal() or (0, ""))[0] == 48 and reply.said:
