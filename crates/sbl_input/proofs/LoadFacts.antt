@@ -70,17 +70,17 @@ word_unread a b taken line fault free fit text other fits took (inr bad) =
 pub script_parsed : (old new : Option (List ℕ)) (text : Vec ℕ Global) (bytes external : List ℕ) (p : ParsedScript) → ReadsScript old new (Ok text) → bytes ≡ text.items
     → IsScriptOf bytes external (source_of p) → TookSource old new external (source_of p)
 script_parsed old new text bytes external p reads whole is =
-    (reads.0, reads.1, subst (λ (t : List ℕ). IsScriptOf t external (source_of p)) (whole ∙ reads.2) is)
+    (reads.0, reads.1, subst (λ (t : List ℕ). IsScriptOf t external (source_of p)) (whole ∙ reads.2.0) is)
 
 -- a block that was not parsed
 pub script_refused : (old new : Option (List ℕ)) (text : Vec ℕ Global) (bytes external : List ℕ) (f : ScriptFault) → ReadsScript old new (Ok text) → bytes ≡ text.items
     → (f ≡ script.OutOfMemory) ⊎ IsFaultOf bytes external f → TookFault old new external f
 script_refused old new text bytes external f reads whole why =
-    (reads.0, reads.1, by (subst (λ (t : List ℕ). (f ≡ script.OutOfMemory) ⊎ IsFaultOf t external f) (whole ∙ reads.2) why))
+    (reads.0, reads.1, by (subst (λ (t : List ℕ). (f ≡ script.OutOfMemory) ⊎ IsFaultOf t external f) (whole ∙ reads.2.0) why))
   where
     by : (f ≡ script.OutOfMemory) ⊎ IsFaultOf (made_text reads.0) external f
         → ((f ≡ script.OutOfMemory) × (length (made_text reads.0) ≤ max_script)) ⊎ IsFaultOf (made_text reads.0) external f
-    by (inl is) = inl (is, reads.3)
+    by (inl is) = inl (is, reads.2.1)
     by (inr is) = inr is
 
 -- a script block that gave no text
