@@ -317,6 +317,17 @@ define stem as backwards ( do r do s )
         self.assertIn("fam is there already", terminal.enter("families > fam"))
         self.assertIn("lines in fam", terminal.enter("families > fam"))
 
+    def test_names_of_files_in_quotes(self):
+        terminal = self.begin()
+        said = "Names of files are written without quotes, blanks included, and nothing was done: %s."
+        for line in ("save 'my stem.sbl'", 'approve "my.stems"', "append 'more'", 'mark "my.stems"', "families 'my.families'", "replace 'my.sbl'", 'classes > "my classes"', "find a > 'my.found'"):
+            self.assertEqual(terminal.enter(line), said % line.replace("'", "").replace('"', ""))
+        self.assertEqual(sorted(os.listdir(self.folder)), ["my.sbl", "my.words", "state"])
+        self.assertEqual(terminal.enter("save my stem.sbl"), "saved in my stem.sbl")
+        self.assertEqual(terminal.enter("classes > my classes"), "3 lines in my classes")
+        self.assertEqual(terminal.enter("save \"it's"), "saved in \"it's")
+        self.assertIn("There are no pipes here.", terminal.enter("classes > my classes | wc"))
+
     def test_stems_of_the_day_before(self):
         """They are the mark of the words that they have, also if others are added; and they can be written anew."""
         terminal = self.begin()

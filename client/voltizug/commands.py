@@ -1,7 +1,7 @@
 """The commands of `work`, by tools/commands.txt: what each takes and does, for help, TAB and sentences."""
 import os
 import re
-from typing import Dict, List, NamedTuple, Sequence, Tuple
+from typing import Callable, Dict, List, NamedTuple, Sequence, Tuple
 
 from .language import ITEMS, RESERVED
 
@@ -38,6 +38,7 @@ WITH_TEXT = [name for name, command in COMMANDS.items() if command.takes in ("WO
 ROWS = "faults figures places text tokens".split()
 REPORTING = "changes class classes counts families find history integers largest last lint script show stats stem stems".split()
 REPORTING += ["events", "tests", "trace", "unused", "uses", "why", *ROWS]
+TO_FILE = re.compile(r"(.*\S)\s+>\s*(\S+|[^|>\s][^|>]*\S)\s*\Z")
 # How a comment and a declaration of a script begin.
 COMMENT, DECLARATION = r"\s*(//|/\*)", r"(%s)( |\Z)" % "|".join(word for word in ITEMS if word != "define")
 # By the beginning of a line that is no command what is said of it. {c} is its first word.
@@ -63,6 +64,16 @@ STRANGE: Sequence[Tuple[str, str]] = (
     (r"define( |\Z)", "A definition begins with define NAME as, or define NAME and the terms of a grouping, in one line."),
     (DECLARATION, "This looks like a script. replace takes a whole one, up to a line with a single point."),
 )
+
+
+def with_files(line: str, make: Callable[[str], str]) -> str:
+    """Returns a line with what is made of each name of a file that it has: after a command that takes one, and after the > of a report."""
+    command = line.partition(" ")[0]
+    found = TO_FILE.match(line) if command in REPORTING else None
+    line, rest = (found[1], line[found.end(1) : found.start(2)] + make(found[2])) if found else (line, "")
+    if command in COMMANDS and COMMANDS[command].takes == "FILE" and " " in line:
+        line = command + " " + make(line[len(command) + 1 :])
+    return line + rest
 
 
 def overview() -> List[str]:

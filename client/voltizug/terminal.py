@@ -10,7 +10,7 @@ from typing import Any, List, Sequence, Tuple
 
 from . import commands, kept, layout, lints, loops, options, reports, rows, screen, warn, words
 from .bench import Bench, typed_edits
-from .commands import BLOCKS, COMMANDS, LANGUAGE, OPEN_BLOCKS, REPORTING, ROWS, WITH_TEXT
+from .commands import BLOCKS, COMMANDS, LANGUAGE, OPEN_BLOCKS, REPORTING, ROWS, TO_FILE, WITH_TEXT
 from .conditions import with_tests
 from .desk import Desk
 from .keys import Broken, Dropped, Hangup
@@ -19,7 +19,6 @@ from .places import BOM, readable
 from .program import DONE, LONGEST, encoded
 
 DEFINITION = re.compile(r"\s*define\s+([A-Za-z][A-Za-z0-9_]*)\s+(as(?=\s|$))?")
-TO_FILE = re.compile(r"(.*\S)\s+>\s*(\S+)\s*\Z")
 USAGE = "usage: %s work [--watch] [--rows | --text] [--color WHEN] [--no-pager] [--external NAME] [--from TEXT] [--stop FILE] SCRIPT [WORDS]" % options.CALLED
 # Replies that are not broken, since an author wrote them.
 TEXTS = ("script", "show", "echo", *ROWS)
@@ -62,8 +61,8 @@ class Terminal(Desk):
             self.screen.say("A file has a fault, so no command runs yet. Correct it there%s. quit or Ctrl-D ends." % then)
         elif len(encoded(line)) > LONGEST:
             self.screen.say(words.SENTENCES[72])
-        elif command in COMMANDS and COMMANDS[command].takes == "FILE" and re.match("[<>|]", argument) and command not in REPORTING:
-            self.screen.say("%s takes the name of a file, without a sign before it: %s." % (command, COMMANDS[command].usage))
+        elif wrong := words.no_file(line):
+            self.screen.say(wrong)
         elif line == "families" and self.bench.families and not self.editor.pending:
             self.ask("families " + self.bench.families)
         elif line in ("", "reload", "undo", "redo") or command in ("limit", "replace") and argument:

@@ -7,7 +7,7 @@ import tempfile
 from typing import Callable, Dict, Sequence
 
 from .bench import Bench, Stage
-from .commands import COMMANDS, NAMED, OPEN_BLOCKS, STRANGE
+from .commands import COMMANDS, NAMED, OPEN_BLOCKS, REPORTING, STRANGE, with_files
 from .kept import is_same, read_file, read_lines
 from .layout import counted, in_words, named, short
 from .near import folded, meant, near
@@ -104,6 +104,16 @@ def refused(code: int, line: str, bench: Stage) -> str:
 def file_of(line: str, bench: Stage) -> str:
     """Returns the file that a command reads."""
     return (bench.words if line == "words" else line.partition(" ")[2] or bench.script) or ""
+
+
+def no_file(line: str) -> str:
+    """Returns the sentence on a name of a file that is in quotes, or has a sign of a shell before it; otherwise nothing."""
+    command, _, argument = line.partition(" ")
+    bare = with_files(line, lambda path: re.sub(r"""\A(["'])(.*)\1\Z""", r"\2", path))
+    if bare != with_files(line, str):
+        return "Names of files are written without quotes, blanks included, and nothing was done: %s." % short(bare)
+    has_sign = command in COMMANDS and COMMANDS[command].takes == "FILE" and command not in REPORTING and re.match("[<>|]", argument)
+    return "%s takes the name of a file, without a sign before it: %s." % (command, COMMANDS[command].usage) if has_sign else ""
 
 
 def in_quotes(word: str, is_sure: bool = False) -> str:
