@@ -328,6 +328,21 @@ define stem as backwards ( do r do s )
         self.assertEqual(terminal.enter("save \"it's"), "saved in \"it's")
         self.assertIn("There are no pipes here.", terminal.enter("classes > my classes | wc"))
 
+    def test_a_file_in_the_home_folder(self):
+        home = self.room(my_families="universe universes\n", my_stems="new\n")
+        terminal = self.begin(HOME=home)
+        self.assertEqual(terminal.enter("save ~/st.sbl"), "saved in %s/st.sbl" % home)
+        self.assertEqual(terminal.enter("find glass > ~/found"), "2 lines in %s/found" % home)
+        self.assertEqual(terminal.enter("families ~/my.families > ~/out"), "2 lines in %s/out" % home)
+        self.assertEqual(terminal.enter("approve ~/my.stems"), "%s/my.stems is there already. Nothing was written: the same line again overwrites it." % home)
+        self.assertEqual(terminal.enter("approve ~/my.stems"), "The stems are in %s/my.stems." % home)
+        self.assertEqual(terminal.enter("mark ~/my.stems"), "no word and no class differs from the mark")
+        self.assertIn("no word and no class differs from the mark", terminal.enter("replace ~/st.sbl"))
+        self.assertEqual(terminal.enter("why ~/st.sbl").split()[0], "nothing")
+        terminal.type("save ~/st.s\t", rb"~/st\.sbl$")
+        self.assertEqual(terminal.enter(""), "saved in %s/st.sbl" % home)
+        self.assertEqual(sorted(os.listdir(self.folder)), ["my.sbl", "my.words", "state"])
+
     def test_stems_of_the_day_before(self):
         """They are the mark of the words that they have, also if others are added; and they can be written anew."""
         terminal = self.begin()

@@ -48,5 +48,5 @@ class Completion:
 
 def files(path: str, text: str) -> List[str]:
     """Returns the files whose names begin so. `text` is what readline replaces: the part after the last blank."""
-    cut = len(path) - len(text)
-    return sorted(found[cut:] + "/" * os.path.isdir(found) for found in glob.glob(glob.escape(path) + "*"))
+    path = os.path.expanduser(path)
+    return sorted(text + found[len(path) :] + "/" * os.path.isdir(found) for found in glob.glob(glob.escape(path) + "*"))

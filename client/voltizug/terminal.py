@@ -10,7 +10,7 @@ from typing import Any, List, Sequence, Tuple
 
 from . import commands, kept, layout, lints, loops, options, reports, rows, screen, warn, words
 from .bench import Bench, typed_edits
-from .commands import BLOCKS, COMMANDS, LANGUAGE, OPEN_BLOCKS, REPORTING, ROWS, TO_FILE, WITH_TEXT
+from .commands import BLOCKS, COMMANDS, LANGUAGE, OPEN_BLOCKS, REPORTING, ROWS, TO_FILE, WITH_TEXT, with_files
 from .conditions import with_tests
 from .desk import Desk
 from .keys import Broken, Dropped, Hangup
@@ -27,15 +27,15 @@ FIGURES = {"changes": 1, "last": 1, "families": 2}
 
 
 def tidy(line: str) -> str:
-    """Returns a line without the blanks that belong to no word."""
+    """Returns a line without the blanks that belong to no word, and with the home folder for the ~ of a file."""
     line = line.lstrip() if "".join(line.split()[:1]) in COMMANDS else line
     line = line if line.partition(" ")[0] in WITH_TEXT else line.rstrip()
     command, _, argument = {"exit": "quit", "?": "help"}.get(line, line).partition(" ")
-    if command not in COMMANDS or command in WITH_TEXT and command != "uses":
-        return line
-    # (TAB writes a blank after the command, and one types another)
-    argument = " ".join(argument.split()) if command == "among" else argument.lstrip()
-    return command + " " * bool(argument) + argument
+    if command in COMMANDS and (command not in WITH_TEXT or command == "uses"):
+        # (TAB writes a blank after the command, and one types another)
+        argument = " ".join(argument.split()) if command == "among" else argument.lstrip()
+        line = command + " " * bool(argument) + argument
+    return with_files(line, os.path.expanduser)
 
 
 class Terminal(Desk):
@@ -108,7 +108,7 @@ class Terminal(Desk):
         else:
             shown = [] if reply.lines == ["ok"] else reports.laid_out(command, reply.lines, self.bench.places)
         if path:
-            self.keep_report(typed, os.path.expanduser(path), shown)
+            self.keep_report(typed, path, shown)
         else:
             self.screen.write(shown, is_report=command in REPORTING, is_text=command in TEXTS, last=FIGURES.get(command, 0))
 
