@@ -2,7 +2,7 @@
 import os
 import time
 
-from voltizug import layout, loops, near, options, reports, rows, warn, words
+from voltizug import layout, lints, loops, near, options, reports, rows, warn, words
 from voltizug.bench import Edit
 from voltizug.conditions import Routine
 from voltizug.editor.judge import place_of
@@ -150,6 +150,16 @@ class Others(Case):
         said = warn.warnings_on(os.path.join(room, "my.sbl"), os.path.join(room, "my.words"))
         self.assertEqual([line.partition(os.sep + "my.")[2][:46] for line in said], [
             "sbl:1: a byte order mark, which is left out. T", "words:1: a blank at an end of the word, which ", "words:2: a blank inside the word, which belong",
+        ])
+
+    def test_letters_that_look_like_others_have_their_numbers(self):
+        """As a Cyrillic a in the place of a Latin one, and a c with another sign over it."""
+        found = rows.read("places", ["entry,stem,1,аcč,10,17,1,11", "entry,stem,1,bcdefghi,20,30,1,21"])
+        places = Places("my.sbl", b"", b"", found, [])
+        shown = lints.strange_strings(places, [rows.Outcome("a", "stem", "a")], [])
+        what = "'%s' has %s, which no word has and no command puts in"
+        self.assertEqual(list(shown), [
+            (10, what % ("аcč", "c, č (U+010D) and а (U+0430)")), (20, what % ("bcdefghi", "b, c, d, e, f and 3 more")),
         ])
 
     def test_the_encoding_of_a_file(self):

@@ -313,9 +313,15 @@ def strange_strings(places: Places, outcomes: Sequence[Outcome], tokens: Sequenc
         return
     there: Set[str] = set().union(*put_in(tokens), *(row.word + row.stem * (row.kind == "stem") for row in outcomes))
     for (_, _, string), row in places.entries.items():
-        strange = " ".join(sorted(set(string) - there))
+        strange = sorted(set(string) - there)
         if strange:
-            yield int(row.start), "'%s' has %s, which no word has and no command puts in" % (short(string), short(strange))
+            what = "'%s' has %s, which no word has and no command puts in"
+            yield int(row.start), what % (short(string), in_words(list(map(letter, strange)), "and", 6))
+
+
+def letter(c: str) -> str:
+    """Returns a letter with its number if it is not of ASCII: letters of two alphabets can look the same."""
+    return c if c.isascii() else "%s (U+%04X)" % (c, ord(c))
 
 
 def put_in(tokens: Sequence[Token]) -> Iterable[str]:
