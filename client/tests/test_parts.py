@@ -162,6 +162,10 @@ class Others(Case):
             (10, what % ("аcč", "c, č (U+010D) and а (U+0430)")), (20, what % ("bcdefghi", "b, c, d, e, f and 3 more")),
         ])
 
+    def test_letters_that_are_not_seen_are_named(self):
+        named = {" ": "a blank", "\t": "a tab", "\u00a0": "U+00A0", "\u200b": "U+200B", "\u030c": "U+030C", "\x1b": "U+001B", "\U00010330": "\U00010330 (U+10330)", "'": "'"}
+        self.assertEqual({c: lints.letter(c) for c in named}, named)
+
     def test_the_encoding_of_a_file(self):
         """By its bytes: words of Icelandic, Czech, Russian and Greek, and marks of UTF-16 and UTF-32."""
         other = "its encoding is ENCODING, such as cp1250 or koi8-r: iconv -f ENCODING"

@@ -79,6 +79,8 @@ class Sessions(Case):
         shown = terminal.enter("lint")
         self.assertIn("my.sbl:2:43: 'q' has q, which no word has and no command puts in", shown)
         self.assertIn("'é' has a letter beyond ASCII", shown)
+        terminal.save(script.replace("'q'", "'x '"))
+        self.assertIn("my.sbl:2:43: 'x ' has a blank, which no word has and no command puts in", terminal.enter("", "lint"))
 
     def test_a_warning_is_told_once_also_of_a_typed_edit(self):
         script = "externals ( stem ) routines ( r )\ndefine r as ( [ ] delete )\ndefine stem as ( do r )\n"

@@ -320,8 +320,9 @@ def strange_strings(places: Places, outcomes: Sequence[Outcome], tokens: Sequenc
 
 
 def letter(c: str) -> str:
-    """Returns a letter with its number if it is not of ASCII: letters of two alphabets can look the same."""
-    return c if c.isascii() else "%s (U+%04X)" % (c, ord(c))
+    """Returns a letter with its number if it is not of ASCII: letters of two alphabets can look the same. Of one that is not seen it is the number."""
+    number = {" ": "a blank", "\t": "a tab"}.get(c, "U+%04X" % ord(c))
+    return c if "!" <= c <= "~" else "%s (%s)" % (c, number) if unicodedata.category(c)[0] in "LNPS" else number
 
 
 def put_in(tokens: Sequence[Token]) -> Iterable[str]:
