@@ -285,6 +285,14 @@ define stem as backwards ( do r do s )
         self.assertNotIn("vocabulary", terminal.enter("why universe"))
         self.assertNotIn("vocabulary", terminal.enter("why elephant"))
 
+    def test_a_word_that_is_not_there_can_be_added(self):
+        terminal = self.begin()
+        for command in ("trace", "class"):
+            self.assertEqual(terminal.enter(command + " glas"), 'glas is not in the vocabulary. Did you mean glass? "add glas" adds it.')
+            self.assertEqual(terminal.enter(command + " elephant"), 'elephant is not in the vocabulary. "why elephant" shows how it would be stemmed, "add elephant" adds it.')
+            self.assertEqual(terminal.enter(command + " Glass"), "Glass is not in the vocabulary. Did you mean glass?")
+        self.assertEqual(terminal.enter("remove glas"), "glas is not in the vocabulary. Did you mean glass?")
+
     def test_a_report_in_a_file(self):
         terminal = self.begin()
         for line in ("classes >", "find a >", "class glass | wc"):

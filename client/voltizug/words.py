@@ -130,8 +130,10 @@ def absent(line: str, bench: Stage) -> str:
         question = " It is there in another form of Unicode (NFC and NFD are different words)."
     if command == "class" and bench.known("stem " + word) is not None:
         return "%s is a stem and no word: stem %s shows its words." % (in_quotes(word), short(word))
-    why = "" if found or command in ("remove", "why") or word != word.strip() else ' "why %s" shows how it would be stemmed.' % short(word)
-    return "%s is not in the vocabulary.%s%s" % (in_quotes(word), question, why)
+    ways = ['"why {0}" shows how it would be stemmed'] * (not found and command not in ("remove", "why"))
+    ways += ['"add {0}" adds it'] * (not same and command in ("class", "trace"))
+    then = " %s." % ", ".join(ways).format(short(word)) if ways and word == word.strip() else ""
+    return "%s is not in the vocabulary.%s%s" % (in_quotes(word), question, then)
 
 
 def misspelt(word: str, bench: Bench) -> str:
