@@ -26,6 +26,19 @@ class Layouts(Case):
         self.assertEqual([layout.columns(text) for text in ("ab", "漢字", "e\u0301", "\t")], [2, 4, 1, 8])
         self.assertEqual([layout.cut("漢字漢字", 6), layout.cut("abcdef", 6), layout.cut("abcdefg", 6)], ["漢字..", "abcdef", "abcd.."])
 
+    def test_a_change_that_is_cut_has_its_new_stem(self):
+        for line, width, wanted in (
+            ("  merged   črn, črna, črni, črno -> čr", 38, "  merged   črn, črna, črni, črno -> čr"),
+            ("  merged   črn, črna, črni, črno -> čr", 35, "  merged   črn, črna, .. -> čr"),
+            ("  merged   črn, črna, črni, črno -> čr", 27, "  merged   črn, .. -> čr"),
+            ("  merged   črn, črna, črni, črno -> čr", 21, "  merged   čr.. -> čr"),
+            ("  merged   črn, črna, črni, črno -> čr", 19, "  merged   črn, č.."),
+            ("  reorganizations  reorganization -> refused Steps", 40, "  reorganizations  re.. -> refused Steps"),
+            ("  split    črn -> črna, črni, črno, črnu", 30, "  split    črn -> črna, črni.."),
+            ("  renamed  abc -> " + "x" * 30, 30, "  renamed  abc -> xxxxxxxxxx.."),
+        ):
+            self.assertEqual(layout.cut(line, width), wanted)
+
     def test_no_character_reaches_the_terminal_that_it_obeys(self):
         self.assertEqual(layout.named("a\x1b[2J\u202eb\udcff\t"), "a<U+001B>[2J<U+202E>b<FF>\t")
 
