@@ -1,9 +1,11 @@
 """The parts that know no terminal: rows, layouts, loops, near names, warnings, options, what is kept."""
 import os
 import time
+from types import SimpleNamespace
 
 from voltizug import layout, lints, loops, near, options, reports, rows, warn, words
 from voltizug.bench import Edit
+from voltizug.completion import Completion
 from voltizug.conditions import Routine
 from voltizug.editor.judge import place_of
 from voltizug.editor.names import Names
@@ -217,6 +219,10 @@ class Others(Case):
         self.assertEqual((found.script, found.words, found.is_watching, found.color, list(found.passed)), ("-s", "w", True, "never", ["--external", "porter"]))
         for given in ([], ["--wach", "s"], ["a", "b", "c"], ["--external", "1", "s"], ["--color=blue", "s"], ["--color"]):
             self.assertRaises(options.Misuse, options.options_of, given)
+
+    def test_only_what_help_lists_is_completed(self):
+        completion = Completion(SimpleNamespace(is_waiting=False))
+        self.assertEqual([completion.complete("e", "e"), completion.complete("help e", "e")], [["events "], ["events"]])
 
     def test_what_was_left_behind(self):
         room = self.room(my_sbl="text")

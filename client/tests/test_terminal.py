@@ -293,6 +293,11 @@ define stem as backwards ( do r do s )
             self.assertEqual(terminal.enter(command + " Glass"), "Glass is not in the vocabulary. Did you mean glass?")
         self.assertEqual(terminal.enter("remove glas"), "glas is not in the vocabulary. Did you mean glass?")
 
+    def test_stem_alone_asks_for_the_empty_stem_if_a_word_has_it(self):
+        terminal = self.begin("externals ( stem )\ndefine stem as ( ['s'] delete )\n", "s\nst\n")
+        self.assertEqual(terminal.enter("stem"), "  (empty): s   (1 word)")
+        self.assertEqual(terminal.enter("remove s", "stem"), "stem needs a stem: stem STEM. No word has the empty one.")
+
     def test_a_report_in_a_file(self):
         terminal = self.begin()
         for line in ("classes >", "find a >", "class glass | wc"):

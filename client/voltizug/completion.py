@@ -5,7 +5,7 @@ from typing import Iterable, List
 
 from . import rows
 from .bench import Bench
-from .commands import COMMANDS, NAMED
+from .commands import COMMANDS, NAMED, UNLISTED
 
 
 class Completion:
@@ -27,7 +27,7 @@ class Completion:
     def candidates(self, command: str, has_more: str, rest: str) -> Iterable[str]:
         """Returns what can come: names of the script, a command, the number of an among, or one of its strings."""
         if not self.is_in_block and (not has_more or command == "help"):
-            return [name + " " * bool(COMMANDS[name].takes and not has_more) for name in COMMANDS]
+            return [name + " " * bool(COMMANDS[name].takes and not has_more) for name in COMMANDS if name not in UNLISTED]
         places, words, has_among = self.bench.places(), rest.split(" "), command in ("among", "uses")
         if self.is_in_block:
             return places.definitions

@@ -147,7 +147,7 @@ def misspelt(word: str, bench: Bench) -> str:
 def no_class(line: str, bench: Stage) -> str:
     stem = line.partition(" ")[2]
     how = "It is a word: why %s shows its stem." if stem in bench.by_word() else "find %s shows the words and stems that have it in them."
-    return ("No word has the stem %s. " + how) % (in_quotes(stem), short(stem)) if stem else "No word has the empty stem."
+    return ("No word has the stem %s. " + how) % (in_quotes(stem), short(stem)) if stem else "stem needs a stem: stem STEM. No word has the empty one."
 
 
 def other_lines(line: str, bench: Stage) -> str:
