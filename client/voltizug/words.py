@@ -131,7 +131,8 @@ def absent(line: str, bench: Stage) -> str:
     if command == "class" and bench.known("stem " + word) is not None:
         return "%s is a stem and no word: stem %s shows its words." % (in_quotes(word), short(word))
     ways = ['"why {0}" shows how it would be stemmed'] * (not found and command not in ("remove", "why"))
-    ways += ['"add {0}" adds it'] * (not same and command in ("class", "trace"))
+    # (an editor, which has a Stage, adds no words)
+    ways += ['"add {0}" adds it'] * (isinstance(bench, Bench) and not same and command in ("class", "trace"))
     then = " %s." % ", ".join(ways).format(short(word)) if ways and word == word.strip() else ""
     return "%s is not in the vocabulary.%s%s" % (in_quotes(word), question, then)
 
