@@ -374,7 +374,7 @@ define stem as backwards ( do r do s )
 
     def test_the_one_warning_that_ends_the_start(self):
         self.begin(words="\ufeffcats\n%s\ndogs \n" % ("x" * 300), columns=80)
-        said = "\nmy.words has a word of more than 255 characters. No other warning ends the start.\nCorrect it in my.words,"
+        said = "\nmy.words has a word of more than 255 characters.\nThis keeps work from starting. The other warnings do not.\nCorrect it in my.words,"
         self.assertIn(said, self.start.replace("\n    ", " "))
         self.assertIn(" To take it away:\n    sed -i '1s/^\\xEF\\xBB\\xBF//' my.words\n", self.start)
         self.begin(words="%s\ndogs\n" % ("x" * 300))
