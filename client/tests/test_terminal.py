@@ -298,6 +298,15 @@ define stem as backwards ( do r do s )
         self.assertEqual(terminal.enter("stem"), "  (empty): s   (1 word)")
         self.assertEqual(terminal.enter("remove s", "stem"), "stem needs a stem: stem STEM. No word has the empty one.")
 
+    def test_a_block_that_the_end_of_input_broke_off_comes_back(self):
+        terminal = self.begin()
+        terminal.enter("routine plural", "( true", "  true")
+        self.assertIn("The up arrow brings the block back, and Enter opens it again.", terminal.type("\x04"))
+        terminal.type("\x1b[A", rb"  true$", 3)
+        terminal.type("\r", rb"  true\n\| \Z")
+        self.assertEqual(terminal.enter(")", ".").split("\n")[-1], "3 words, 3 split since the mark")
+        self.assertEqual(terminal.enter("show plural").split("\n")[1:], ["  define plural as ( true", "  true", ")"])
+
     def test_a_report_in_a_file(self):
         terminal = self.begin()
         for line in ("classes >", "find a >", "class glass | wc"):

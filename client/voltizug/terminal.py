@@ -334,7 +334,8 @@ class Terminal(Desk):
                 self.editor.remember(line)
             self.screen.say("The block is dropped%s." % ("; the up arrow brings its lines back" if len(block) > 1 else ""))
         elif end != ".":
-            self.screen.say("Nothing was done: the block has no line with only a point at its end.")
+            self.editor.remember(*(block if len(block) > 1 else []))
+            self.screen.say("Nothing was done: the block has no line with only a point at its end.", "The up arrow brings the block back, and Enter opens it again.")
         elif block[0] == "families":
             reply = self.bench.ask(*block, ".")
             if self.is_done(reply, "families"):
