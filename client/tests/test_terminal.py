@@ -8,7 +8,7 @@ import unittest.mock
 
 from voltizug import keys
 
-from .kit import CLIENT, FAKE, LOOP, Case, alive, example
+from .kit import CLIENT, FAKE, LOOP, Case, alive, example, write
 
 AUTHOR, WORDS = example("author.sbl"), example("author.words")
 
@@ -186,6 +186,14 @@ class Sessions(Case):
         terminal.save(WORDS + "a b\n", "my.words")
         self.assertEqual(terminal.enter("words").split("\n"), ["my.words:9: a blank inside the word, which belongs to it. A line is one word", "9 words; 1 added: a b"])
         self.assertEqual(terminal.enter("words"), "9 words")
+
+    def test_words_that_are_no_text_have_their_advice_once(self):
+        """With the warning; if that was given before, with the refusal."""
+        terminal = self.begin()
+        write(os.path.join(self.folder, "my.words"), "cats\nk\u016f\u0148\nk\u016f\u0148e\n".encode("iso-8859-2"))
+        advice = "If its encoding is ENCODING, such as cp1250 or koi8-r: iconv -f ENCODING -t utf-8 my.words > NEW. Then, if NEW is right: mv NEW my.words"
+        self.assertEqual(terminal.enter("words").split("\n"), ["my.words:2: not UTF-8 (and 1 more line). " + advice, "Nothing changed."])
+        self.assertEqual(terminal.enter("words"), "my.words is not UTF-8. " + advice)
 
     def test_what_is_typed_as_it_is_shown(self):
         terminal = self.begin()

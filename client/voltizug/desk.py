@@ -194,8 +194,9 @@ class Desk:
         code, name = reply.refusal() or (0, "")
         self.show_fault(reply.said, lines)
         said = words.sentence(reply, lines, self.bench)
-        if lines[0] in ("reload", "words") and code != BROKEN_OFF[0]:
-            self.warn(self.bench.words if lines[0] == "words" else None)
+        if lines[0] in ("reload", "words") and code != BROKEN_OFF[0] and self.warn(self.bench.words if lines[0] == "words" else None) and code == 75:
+            # (the warning says how the list becomes UTF-8)
+            said = "Nothing changed."
         if lines[0] == "reload":
             said = "Nothing changed. " + self.correction(self.bench.script) if code == 48 else said
         elif code == 48 and not reply.said:
