@@ -219,6 +219,10 @@ class Others(Case):
         self.assertEqual((found.script, found.words, found.is_watching, found.color, list(found.passed)), ("-s", "w", True, "never", ["--external", "porter"]))
         for given in ([], ["--wach", "s"], ["a", "b", "c"], ["--external", "1", "s"], ["--color=blue", "s"], ["--color"]):
             self.assertRaises(options.Misuse, options.options_of, given)
+        for wrong, asked in (("--wach", ["Did you mean --watch?"]), ("--colour=never", ["Did you mean --color?"]), ("--progrm=x", []), ("-w", [])):
+            with self.assertRaises(options.Misuse) as raised:
+                options.options_of([wrong, "s"])
+            self.assertEqual(list(raised.exception.args), ["work has no option %s. %s" % (wrong, options.HAS), *asked])
 
     def test_only_what_help_lists_is_completed(self):
         completion = Completion(SimpleNamespace(is_waiting=False))

@@ -442,7 +442,7 @@ def main(given: Sequence[str]) -> int:
     try:
         found = options.options_of(given)
     except options.Misuse as why:
-        print("snowbench: %s\n%s" % (layout.named(str(why)), USAGE), file=sys.stderr)
+        print("snowbench: " + "\n".join([*map(layout.named, why.args), USAGE]), file=sys.stderr)
         return 2
     files = [found.script, found.words] if found.words else [found.script]
     if found.has_rows or not (os.isatty(0) and os.isatty(1)):
