@@ -287,6 +287,15 @@ define stem as backwards ( do r do s )
         self.assertIn("kato", terminal.enter("quit"))
         self.assertEqual(terminal.enter("append"), "2 words are now at the end of my.words.")
 
+    def test_a_question_is_broken_at_blanks(self):
+        for term in ("dumb", "xterm"):
+            terminal = self.begin(columns=60, term=term)
+            shown = terminal.type("add hundo kato\r", rb"nothing: \Z")
+            self.assertEqual(shown.replace("\x1b[?2004l", "").replace("\x1b[?2004h", "").replace("\r", "\n").strip("\n").split("\n")[-2:], [
+                "Add 2 words (hundo and kato)? y adds them, \"one\" adds one", "    word with blanks in it, Enter adds nothing: ",
+            ])
+            self.assertIn("kato is added: kato", terminal.enter("y"))
+
     def test_why_of_a_word_that_is_misspelt(self):
         terminal = self.begin()
         self.assertEqual(terminal.enter("why univrse").split("\n")[-1], "  univrse is not in the vocabulary. Did you mean universe?")

@@ -227,11 +227,17 @@ class Terminal(Desk):
         parts, reply = text.split(), "one"
         if len(parts) > 1 and not self.editor.pending:
             prompt = 'Add %d words (%s)? y adds them, "one" adds one word with blanks in it, Enter adds nothing: '
-            reply = (self.editor.read(layout.named(prompt % (len(parts), in_words(parts, "and", 6)))) or "").strip().lower()
+            reply = self.asked(prompt % (len(parts), in_words(parts, "and", 6))).lower()
         for word in {"one": [text], "y": parts, "yes": parts}.get(reply, []):
             self.ask("add " + word)
         if reply not in ("", "one", "y", "yes"):
             self.screen.say("Nothing was added: %s is no answer to this." % words.in_quotes(reply, True))
+
+    def asked(self, question: str) -> str:
+        """Returns what is typed after a question. It is broken at blanks here: readline breaks a word."""
+        *lines, last = self.screen.broken([question])
+        self.screen.write(lines)
+        return (self.editor.read(last) or "").strip()
 
     def write(self, command: str, path: str) -> None:
         """Has the script or the stems written to a file."""
@@ -309,7 +315,7 @@ class Terminal(Desk):
             self.screen.say(begins % (short(name), line))
             return line + " 1"
         if count and not self.editor.pending:
-            number = (self.editor.read(layout.named(words.which_among(name, self.bench))) or "").strip()
+            number = self.asked(words.which_among(name, self.bench))
             return number and line + " " + number
         return line
 
