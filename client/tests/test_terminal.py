@@ -360,9 +360,9 @@ define stem as backwards ( do r do s )
 
     def test_names_of_files_in_quotes(self):
         terminal = self.begin()
-        said = "Names of files are written without quotes, blanks included, and nothing was done: %s."
-        for line in ("save 'my stem.sbl'", 'approve "my.stems"', "append 'more'", 'mark "my.stems"', "families 'my.families'", "replace 'my.sbl'", 'classes > "my classes"', "find a > 'my.found'"):
-            self.assertEqual(terminal.enter(line), said % line.replace("'", "").replace('"', ""))
+        said = "Names of files are written without quotes, blanks included, and nothing was done."
+        for line in ("save 'my stem.sbl'", 'approve "my.stems"', "append 'more'", 'mark "my.stems"', "families 'my.families'", "replace 'my.sbl'", 'classes > "my classes"', "families 'f' > g", "find a > 'my.found'"):
+            self.assertEqual(terminal.enter(line), said)
         self.assertEqual(sorted(os.listdir(self.folder)), ["my.sbl", "my.words", "state"])
         self.assertEqual(terminal.enter("save my stem.sbl"), "saved in my stem.sbl")
         self.assertEqual(terminal.enter("classes > my classes"), "3 lines in my classes")

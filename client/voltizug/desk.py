@@ -76,8 +76,7 @@ class Desk:
         name = (bench.words if code in OF_WORDS else bench.script) or ""
         self.show_fault(reply.said)
         if code == 44 or code in OF_WORDS and warned != 1:
-            others = "This keeps work from starting. The other warnings do not." if warned > 1 else ""
-            say(OF_WORDS[code].format(name=short(name), quoted=words.in_shell(name)), others)
+            say(OF_WORDS[code].format(name=short(name), quoted=words.in_shell(name)), "This keeps work from starting. The other warnings do not." * (warned > 1))
         if not reply.said:
             status = bench.program.stop()
             say("The program ended at the start, with status %s." % status if reply.state != DONE else words.SENTENCES[49])

@@ -59,9 +59,8 @@ def cut(line: str, width: int) -> str:
     if columns(line) <= width:
         return line
     names, arrow, stem = line.rpartition(" -> ")
-    room = width - columns(arrow + stem)
-    if arrow and room > len("  merged   ..") and not line.startswith("  split "):
-        names = cut(names, room)
+    if arrow and width > columns("  merged   .." + arrow + stem) and not line.startswith("  split "):
+        names = cut(names, width - columns(arrow + stem))
         return (names.rpartition(", ")[0] + ", .." if ", " in names else names) + arrow + stem
     line = line[: 2 * width]
     while columns(line) > width - 2:

@@ -10,7 +10,7 @@ from typing import Any, List, Sequence, Tuple
 
 from . import commands, kept, layout, lints, loops, options, reports, rows, screen, warn, words
 from .bench import Bench, typed_edits
-from .commands import BLOCKS, COMMANDS, LANGUAGE, OPEN_BLOCKS, REPORTING, ROWS, TO_FILE, WITH_TEXT, with_files
+from .commands import BEFORE_FILE, BLOCKS, COMMANDS, LANGUAGE, NO_FILE, OPEN_BLOCKS, REPORTING, ROWS, WITH_TEXT
 from .conditions import with_tests
 from .desk import Desk
 from .keys import Broken, Dropped, Hangup
@@ -19,6 +19,7 @@ from .places import BOM, readable
 from .program import DONE, LONGEST, encoded
 
 DEFINITION = re.compile(r"\s*define\s+([A-Za-z][A-Za-z0-9_]*)\s+(as(?=\s|$))?")
+TO_FILE = re.compile(r"(.*\S)\s+>\s*(\S+|[^|>\s][^|>]*\S)\s*\Z")
 USAGE = "usage: %s work [--watch] [--rows | --text] [--color WHEN] [--no-pager] [--external NAME] [--from TEXT] [--stop FILE] SCRIPT [WORDS]" % options.CALLED
 # Replies that are not broken, since an author wrote them.
 TEXTS = ("script", "show", "echo", *ROWS)
@@ -35,7 +36,9 @@ def tidy(line: str) -> str:
         # (TAB writes a blank after the command, and one types another)
         argument = " ".join(argument.split()) if command == "among" else argument.lstrip()
         line = command + " " * bool(argument) + argument
-    return with_files(line, os.path.expanduser)
+    for before in BEFORE_FILE:
+        line = re.sub(r"\A(%s)(~.*)" % before, lambda found: found[1] + os.path.expanduser(found[2]), line)
+    return line
 
 
 class Terminal(Desk):
@@ -61,7 +64,7 @@ class Terminal(Desk):
             self.screen.say("A file has a fault, so no command runs yet. Correct it there%s. quit or Ctrl-D ends." % then)
         elif len(encoded(line)) > LONGEST:
             self.screen.say(words.SENTENCES[72])
-        elif wrong := words.no_file(line):
+        elif wrong := words.strange(line, NO_FILE):
             self.screen.say(wrong)
         elif line == "families" and self.bench.families and not self.editor.pending:
             self.ask("families " + self.bench.families)
@@ -294,9 +297,8 @@ class Terminal(Desk):
         if what == "drop":
             for old in left:
                 self.bench.kept.forget(old.room)
+        if not left or what == "drop":
             self.screen.say("They are forgotten." if left else "No typed edits were left behind.")
-        elif not left:
-            self.screen.say("No typed edits were left behind.")
         else:
             last = left[-1]
             for word in [word for word in last.words if word not in before]:

@@ -4,10 +4,10 @@ import os
 import re
 import shlex
 import tempfile
-from typing import Callable, Dict, Sequence
+from typing import Callable, Dict, Sequence, Tuple
 
 from .bench import Bench, Stage
-from .commands import COMMANDS, NAMED, OPEN_BLOCKS, REPORTING, STRANGE, with_files
+from .commands import COMMANDS, NAMED, OPEN_BLOCKS, STRANGE
 from .kept import is_same, read_file, read_lines
 from .layout import counted, in_words, named, short
 from .near import folded, meant, near
@@ -15,13 +15,11 @@ from .places import Places
 from .options import CALLED
 from .program import Reply, encoded
 
-# By the number of a refusal its sentence. {c} is the command, {a} what follows it, {path} its file.
+# By the number of a refusal its sentence, if there is more to say than that nothing changed. {c} is the command, {a} what follows it.
 SENTENCES: Dict[int, str] = {
     40: "{a} is in the vocabulary already.",
     43: "A word may have 255 characters at most.",
     44: "The vocabulary has 100,000 words, and takes no more. remove WORD makes room.",
-    47: "Nothing changed.",
-    48: "Nothing changed.",
     49: "There was not enough memory. Nothing changed; you can try again.",
     50: "The count of runs is at its end. Start again.",
     51: "A limit is a number from 1 to 10,000,000, such as limit 1000.",
@@ -96,24 +94,13 @@ def refused(code: int, line: str, bench: Stage) -> str:
         return "%s needs a %s: %s." % (command, COMMANDS[command].takes.partition(" ")[0].lower(), COMMANDS[command].usage)
     if code in SPECIAL:
         return SPECIAL[code](line, bench)
-    path, (name, k, string) = file_of(line, bench), [*argument.split(" ", 2), "", ""][:3]
-    said = SENTENCES.get(code, "Nothing changed.")
-    return said.format(c=command, a=short(argument), k=k, string=short(string), name=short(name), path=short(path))
+    name, k, string = [*argument.split(" ", 2), "", ""][:3]
+    return SENTENCES.get(code, "Nothing changed.").format(c=command, a=short(argument), k=k, string=short(string), name=short(name))
 
 
 def file_of(line: str, bench: Stage) -> str:
     """Returns the file that a command reads."""
     return (bench.words if line == "words" else line.partition(" ")[2] or bench.script) or ""
-
-
-def no_file(line: str) -> str:
-    """Returns the sentence on a name of a file that is in quotes, or has a sign of a shell before it; otherwise nothing."""
-    command, _, argument = line.partition(" ")
-    bare = with_files(line, lambda path: re.sub(r"""\A(["'])(.*)\1\Z""", r"\2", path))
-    if bare != with_files(line, str):
-        return "Names of files are written without quotes, blanks included, and nothing was done: %s." % short(bare)
-    has_sign = command in COMMANDS and COMMANDS[command].takes == "FILE" and command not in REPORTING and re.match("[<>|]", argument)
-    return "%s takes the name of a file, without a sign before it: %s." % (command, COMMANDS[command].usage) if has_sign else ""
 
 
 def in_quotes(word: str, is_sure: bool = False) -> str:
@@ -161,8 +148,8 @@ def no_stem(_: str, bench: Stage) -> str:
     if not refused:
         return "A stem has a line feed, or ends in a carriage return, and is not one line. Nothing was written."
     more = " and of {:,} more".format(len(refused) - 1) if len(refused) > 1 else ""
-    where = "why %s shows where. Nothing was written." % short(refused[0])
-    return "The run of %s%s is refused, so there is no stem to write: %s" % (in_quotes(refused[0]), more, where)
+    said = "The run of %s%s is refused, so there is no stem to write: why %s shows where. Nothing was written."
+    return said % (in_quotes(refused[0]), more, short(refused[0]))
 
 
 def no_name(line: str, bench: Stage) -> str:
@@ -228,10 +215,10 @@ def unknown(line: str, bench: Stage) -> str:
     return no_command(line)
 
 
-def strange(line: str) -> str:
-    """The sentence for a line that is another thing than a command; nothing if that is not known."""
-    said = next((said for begins, said in STRANGE if re.match(begins, line)), "")
-    return said.format(c=line.partition(" ")[0], called=named(CALLED))
+def strange(line: str, table: Sequence[Tuple[str, str]] = STRANGE) -> str:
+    """The sentence of a table for a line: of this one, if it is another thing than a command. Nothing if that is not known."""
+    command, said = line.partition(" ")[0], next((said for begins, said in table if re.match(begins, line)), "")
+    return said.format(c=command, called=named(CALLED), usage=COMMANDS[command].usage if command in COMMANDS else "")
 
 
 def no_command(line: str) -> str:
@@ -333,8 +320,7 @@ def may_not(why: str, command: str, path: str, then: str = "") -> str:
     to, folder = "save to %s file" if command == "save" else "name %s file", os.path.dirname(path) or "."
     room = no_room(folder) if "{room}" in MAY_NOT[why] else ""
     other, new = to % "another", to % "a new"
-    fields = {"other": other, "Other": other.capitalize(), "new": new, "then": then, "folder": short(folder), "room": room}
-    return MAY_NOT[why].format(path=short(path), c=command, **fields)
+    return MAY_NOT[why].format(path=short(path), c=command, other=other, Other=other.capitalize(), new=new, then=then, folder=short(folder), room=room)
 
 
 # By the number of a refusal what makes its sentence of the line and the bench.
