@@ -1,9 +1,11 @@
 """The parts that know no terminal: rows, layouts, loops, near names, warnings, options, what is kept."""
 import os
 import time
+from types import SimpleNamespace
 
-from voltizug import layout, loops, near, options, reports, rows, warn, words
+from voltizug import layout, lints, loops, near, options, reports, rows, warn, words
 from voltizug.bench import Edit
+from voltizug.completion import Completion
 from voltizug.conditions import Routine
 from voltizug.editor.judge import place_of
 from voltizug.editor.names import Names
@@ -25,6 +27,19 @@ class Layouts(Case):
         )
         self.assertEqual([layout.columns(text) for text in ("ab", "漢字", "e\u0301", "\t")], [2, 4, 1, 8])
         self.assertEqual([layout.cut("漢字漢字", 6), layout.cut("abcdef", 6), layout.cut("abcdefg", 6)], ["漢字..", "abcdef", "abcd.."])
+
+    def test_a_change_that_is_cut_has_its_new_stem(self):
+        for line, width, wanted in (
+            ("  merged   črn, črna, črni, črno -> čr", 38, "  merged   črn, črna, črni, črno -> čr"),
+            ("  merged   črn, črna, črni, črno -> čr", 35, "  merged   črn, črna, .. -> čr"),
+            ("  merged   črn, črna, črni, črno -> čr", 27, "  merged   črn, .. -> čr"),
+            ("  merged   črn, črna, črni, črno -> čr", 21, "  merged   čr.. -> čr"),
+            ("  merged   črn, črna, črni, črno -> čr", 19, "  merged   črn, č.."),
+            ("  reorganizations  reorganization -> refused Steps", 40, "  reorganizations  re.. -> refused Steps"),
+            ("  split    črn -> črna, črni, črno, črnu", 30, "  split    črn -> črna, črni.."),
+            ("  renamed  abc -> " + "x" * 30, 30, "  renamed  abc -> xxxxxxxxxx.."),
+        ):
+            self.assertEqual(layout.cut(line, width), wanted)
 
     def test_no_character_reaches_the_terminal_that_it_obeys(self):
         self.assertEqual(layout.named("a\x1b[2J\u202eb\udcff\t"), "a<U+001B>[2J<U+202E>b<FF>\t")
@@ -152,6 +167,20 @@ class Others(Case):
             "sbl:1: a byte order mark, which is left out. T", "words:1: a blank at an end of the word, which ", "words:2: a blank inside the word, which belong",
         ])
 
+    def test_letters_that_look_like_others_have_their_numbers(self):
+        """As a Cyrillic a in the place of a Latin one, and a c with another sign over it."""
+        found = rows.read("places", ["entry,stem,1,аcč,10,17,1,11", "entry,stem,1,bcdefghi,20,30,1,21"])
+        places = Places("my.sbl", b"", b"", found, [])
+        shown = lints.strange_strings(places, [rows.Outcome("a", "stem", "a")], [])
+        what = "'%s' has %s, which no word has and no command puts in"
+        self.assertEqual(list(shown), [
+            (10, what % ("аcč", "c, č (U+010D) and а (U+0430)")), (20, what % ("bcdefghi", "b, c, d, e, f and 3 more")),
+        ])
+
+    def test_letters_that_are_not_seen_are_named(self):
+        named = {" ": "a blank", "\t": "a tab", "\u00a0": "U+00A0", "\u200b": "U+200B", "\u030c": "U+030C", "\x1b": "U+001B", "\U00010330": "\U00010330 (U+10330)", "'": "'"}
+        self.assertEqual({c: lints.letter(c) for c in named}, named)
+
     def test_the_encoding_of_a_file(self):
         """By its bytes: words of Icelandic, Czech, Russian and Greek, and marks of UTF-16 and UTF-32."""
         other = "its encoding is ENCODING, such as cp1250 or koi8-r: iconv -f ENCODING"
@@ -190,6 +219,14 @@ class Others(Case):
         self.assertEqual((found.script, found.words, found.is_watching, found.color, list(found.passed)), ("-s", "w", True, "never", ["--external", "porter"]))
         for given in ([], ["--wach", "s"], ["a", "b", "c"], ["--external", "1", "s"], ["--color=blue", "s"], ["--color"]):
             self.assertRaises(options.Misuse, options.options_of, given)
+        for wrong, asked in (("--wach", ["Did you mean --watch?"]), ("--colour=never", ["Did you mean --color?"]), ("--progrm=x", []), ("-w", [])):
+            with self.assertRaises(options.Misuse) as raised:
+                options.options_of([wrong, "s"])
+            self.assertEqual(list(raised.exception.args), ["work has no option %s. %s" % (wrong, options.HAS), *asked])
+
+    def test_only_what_help_lists_is_completed(self):
+        completion = Completion(SimpleNamespace(is_waiting=False))
+        self.assertEqual([completion.complete("e", "e"), completion.complete("help e", "e")], [["events "], ["events"]])
 
     def test_what_was_left_behind(self):
         room = self.room(my_sbl="text")

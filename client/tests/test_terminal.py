@@ -8,7 +8,7 @@ import unittest.mock
 
 from voltizug import keys
 
-from .kit import CLIENT, FAKE, LOOP, Case, alive, example
+from .kit import CLIENT, FAKE, LOOP, Case, alive, example, write
 
 AUTHOR, WORDS = example("author.sbl"), example("author.words")
 
@@ -79,6 +79,8 @@ class Sessions(Case):
         shown = terminal.enter("lint")
         self.assertIn("my.sbl:2:43: 'q' has q, which no word has and no command puts in", shown)
         self.assertIn("'é' has a letter beyond ASCII", shown)
+        terminal.save(script.replace("'q'", "'x '"))
+        self.assertIn("my.sbl:2:43: 'x ' has a blank, which no word has and no command puts in", terminal.enter("", "lint"))
 
     def test_a_warning_is_told_once_also_of_a_typed_edit(self):
         script = "externals ( stem ) routines ( r )\ndefine r as ( [ ] delete )\ndefine stem as ( do r )\n"
@@ -185,6 +187,14 @@ class Sessions(Case):
         self.assertEqual(terminal.enter("words").split("\n"), ["my.words:9: a blank inside the word, which belongs to it. A line is one word", "9 words; 1 added: a b"])
         self.assertEqual(terminal.enter("words"), "9 words")
 
+    def test_words_that_are_no_text_have_their_advice_once(self):
+        """With the warning; if that was given before, with the refusal."""
+        terminal = self.begin()
+        write(os.path.join(self.folder, "my.words"), "cats\nk\u016f\u0148\nk\u016f\u0148e\n".encode("iso-8859-2"))
+        advice = "If its encoding is ENCODING, such as cp1250 or koi8-r: iconv -f ENCODING -t utf-8 my.words > NEW. Then, if NEW is right: mv NEW my.words"
+        self.assertEqual(terminal.enter("words").split("\n"), ["my.words:2: not UTF-8 (and 1 more line). " + advice, "Nothing changed."])
+        self.assertEqual(terminal.enter("words"), "my.words is not UTF-8. " + advice)
+
     def test_what_is_typed_as_it_is_shown(self):
         terminal = self.begin()
         self.assertEqual(terminal.enter("uses ending 1 'ity'"), "  university  univers")
@@ -277,11 +287,42 @@ define stem as backwards ( do r do s )
         self.assertIn("kato", terminal.enter("quit"))
         self.assertEqual(terminal.enter("append"), "2 words are now at the end of my.words.")
 
+    def test_a_question_is_broken_at_blanks(self):
+        for term in ("dumb", "xterm"):
+            terminal = self.begin(columns=60, term=term)
+            shown = terminal.type("add hundo kato\r", rb"nothing: \Z")
+            self.assertEqual(shown.replace("\x1b[?2004l", "").replace("\x1b[?2004h", "").replace("\r", "\n").strip("\n").split("\n")[-2:], [
+                "Add 2 words (hundo and kato)? y adds them, \"one\" adds one", "    word with blanks in it, Enter adds nothing: ",
+            ])
+            self.assertIn("kato is added: kato", terminal.enter("y"))
+
     def test_why_of_a_word_that_is_misspelt(self):
         terminal = self.begin()
         self.assertEqual(terminal.enter("why univrse").split("\n")[-1], "  univrse is not in the vocabulary. Did you mean universe?")
         self.assertNotIn("vocabulary", terminal.enter("why universe"))
         self.assertNotIn("vocabulary", terminal.enter("why elephant"))
+
+    def test_a_word_that_is_not_there_can_be_added(self):
+        terminal = self.begin()
+        for command in ("trace", "class"):
+            self.assertEqual(terminal.enter(command + " glas"), 'glas is not in the vocabulary. Did you mean glass? "add glas" adds it.')
+            self.assertEqual(terminal.enter(command + " elephant"), 'elephant is not in the vocabulary. "why elephant" shows how it would be stemmed, "add elephant" adds it.')
+            self.assertEqual(terminal.enter(command + " Glass"), "Glass is not in the vocabulary. Did you mean glass?")
+        self.assertEqual(terminal.enter("remove glas"), "glas is not in the vocabulary. Did you mean glass?")
+
+    def test_stem_alone_asks_for_the_empty_stem_if_a_word_has_it(self):
+        terminal = self.begin("externals ( stem )\ndefine stem as ( ['s'] delete )\n", "s\nst\n")
+        self.assertEqual(terminal.enter("stem"), "  (empty): s   (1 word)")
+        self.assertEqual(terminal.enter("remove s", "stem"), "stem needs a stem: stem STEM. No word has the empty one.")
+
+    def test_a_block_that_the_end_of_input_broke_off_comes_back(self):
+        terminal = self.begin()
+        terminal.enter("routine plural", "( true", "  true")
+        self.assertIn("The up arrow brings the block back, and Enter opens it again.", terminal.type("\x04"))
+        terminal.type("\x1b[A", rb"  true$", 3)
+        terminal.type("\r", rb"  true\n\| \Z")
+        self.assertEqual(terminal.enter(")", ".").split("\n")[-1], "3 words, 3 split since the mark")
+        self.assertEqual(terminal.enter("show plural").split("\n")[1:], ["  define plural as ( true", "  true", ")"])
 
     def test_a_report_in_a_file(self):
         terminal = self.begin()
@@ -317,6 +358,32 @@ define stem as backwards ( do r do s )
         self.assertIn("fam is there already", terminal.enter("families > fam"))
         self.assertIn("lines in fam", terminal.enter("families > fam"))
 
+    def test_names_of_files_in_quotes(self):
+        terminal = self.begin()
+        said = "Names of files are written without quotes, blanks included, and nothing was done."
+        for line in ("save 'my stem.sbl'", 'approve "my.stems"', "append 'more'", 'mark "my.stems"', "families 'my.families'", "replace 'my.sbl'", 'classes > "my classes"', "families 'f' > g", "find a > 'my.found'"):
+            self.assertEqual(terminal.enter(line), said)
+        self.assertEqual(sorted(os.listdir(self.folder)), ["my.sbl", "my.words", "state"])
+        self.assertEqual(terminal.enter("save my stem.sbl"), "saved in my stem.sbl")
+        self.assertEqual(terminal.enter("classes > my classes"), "3 lines in my classes")
+        self.assertEqual(terminal.enter("save \"it's"), "saved in \"it's")
+        self.assertIn("There are no pipes here.", terminal.enter("classes > my classes | wc"))
+
+    def test_a_file_in_the_home_folder(self):
+        home = self.room(my_families="universe universes\n", my_stems="new\n")
+        terminal = self.begin(HOME=home)
+        self.assertEqual(terminal.enter("save ~/st.sbl"), "saved in %s/st.sbl" % home)
+        self.assertEqual(terminal.enter("find glass > ~/found"), "2 lines in %s/found" % home)
+        self.assertEqual(terminal.enter("families ~/my.families > ~/out"), "2 lines in %s/out" % home)
+        self.assertEqual(terminal.enter("approve ~/my.stems"), "%s/my.stems is there already. Nothing was written: the same line again overwrites it." % home)
+        self.assertEqual(terminal.enter("approve ~/my.stems"), "The stems are in %s/my.stems." % home)
+        self.assertEqual(terminal.enter("mark ~/my.stems"), "no word and no class differs from the mark")
+        self.assertIn("no word and no class differs from the mark", terminal.enter("replace ~/st.sbl"))
+        self.assertEqual(terminal.enter("why ~/st.sbl").split()[0], "nothing")
+        terminal.type("save ~/st.s\t", rb"~/st\.sbl$")
+        self.assertEqual(terminal.enter(""), "saved in %s/st.sbl" % home)
+        self.assertEqual(sorted(os.listdir(self.folder)), ["my.sbl", "my.words", "state"])
+
     def test_stems_of_the_day_before(self):
         """They are the mark of the words that they have, also if others are added; and they can be written anew."""
         terminal = self.begin()
@@ -333,7 +400,7 @@ define stem as backwards ( do r do s )
 
     def test_the_one_warning_that_ends_the_start(self):
         self.begin(words="\ufeffcats\n%s\ndogs \n" % ("x" * 300), columns=80)
-        said = "\nmy.words has a word of more than 255 characters. No other warning ends the start.\nCorrect it in my.words,"
+        said = "\nmy.words has a word of more than 255 characters.\nThis keeps work from starting. The other warnings do not.\nCorrect it in my.words,"
         self.assertIn(said, self.start.replace("\n    ", " "))
         self.assertIn(" To take it away:\n    sed -i '1s/^\\xEF\\xBB\\xBF//' my.words\n", self.start)
         self.begin(words="%s\ndogs\n" % ("x" * 300))

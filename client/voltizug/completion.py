@@ -5,7 +5,7 @@ from typing import Iterable, List
 
 from . import rows
 from .bench import Bench
-from .commands import COMMANDS, NAMED
+from .commands import COMMANDS, NAMED, UNLISTED
 
 
 class Completion:
@@ -27,7 +27,7 @@ class Completion:
     def candidates(self, command: str, has_more: str, rest: str) -> Iterable[str]:
         """Returns what can come: names of the script, a command, the number of an among, or one of its strings."""
         if not self.is_in_block and (not has_more or command == "help"):
-            return [name + " " * bool(COMMANDS[name].takes and not has_more) for name in COMMANDS]
+            return [name + " " * bool(COMMANDS[name].takes and not has_more) for name in COMMANDS if name not in UNLISTED]
         places, words, has_among = self.bench.places(), rest.split(" "), command in ("among", "uses")
         if self.is_in_block:
             return places.definitions
@@ -48,5 +48,5 @@ class Completion:
 
 def files(path: str, text: str) -> List[str]:
     """Returns the files whose names begin so. `text` is what readline replaces: the part after the last blank."""
-    cut = len(path) - len(text)
-    return sorted(found[cut:] + "/" * os.path.isdir(found) for found in glob.glob(glob.escape(path) + "*"))
+    path = os.path.expanduser(path)
+    return sorted(text + found[len(path) :] + "/" * os.path.isdir(found) for found in glob.glob(glob.escape(path) + "*"))

@@ -76,7 +76,7 @@ class Desk:
         name = (bench.words if code in OF_WORDS else bench.script) or ""
         self.show_fault(reply.said)
         if code == 44 or code in OF_WORDS and warned != 1:
-            say(OF_WORDS[code].format(name=short(name), quoted=words.in_shell(name)) + " No other warning ends the start." * (warned > 1))
+            say(OF_WORDS[code].format(name=short(name), quoted=words.in_shell(name)), "This keeps work from starting. The other warnings do not." * (warned > 1))
         if not reply.said:
             status = bench.program.stop()
             say("The program ended at the start, with status %s." % status if reply.state != DONE else words.SENTENCES[49])
@@ -193,8 +193,9 @@ class Desk:
         code, name = reply.refusal() or (0, "")
         self.show_fault(reply.said, lines)
         said = words.sentence(reply, lines, self.bench)
-        if lines[0] in ("reload", "words") and code != BROKEN_OFF[0]:
-            self.warn(self.bench.words if lines[0] == "words" else None)
+        if lines[0] in ("reload", "words") and code != BROKEN_OFF[0] and self.warn(self.bench.words if lines[0] == "words" else None) and code == 75:
+            # (the warning says how the list becomes UTF-8)
+            said = "Nothing changed."
         if lines[0] == "reload":
             said = "Nothing changed. " + self.correction(self.bench.script) if code == 48 else said
         elif code == 48 and not reply.said:

@@ -20,8 +20,7 @@ OPEN = re.compile(r":(\d+):(\d+): .*; the \( of (\d+):(\d+) is still open\Z")
 
 def code_of(said: Sequence[str]) -> int:
     """Returns the number of the fault for which the program ended; 0 if it says none."""
-    found = CODE.match(said[0]) if said else None
-    return int(found[1]) if found else 0
+    return int(found[1]) if said and (found := CODE.match(said[0])) else 0
 
 
 def shown(

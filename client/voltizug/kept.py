@@ -83,8 +83,7 @@ def locked(room: str) -> Optional[IO[bytes]]:
 
 def home() -> str:
     """Returns the client's folder for its state, one of its own if that cannot be written."""
-    base = os.environ.get("XDG_STATE_HOME") or os.path.join(os.path.expanduser("~"), ".local", "state")
-    folder = os.path.join(base, "voltizug")
+    folder = os.path.join(os.environ.get("XDG_STATE_HOME") or os.path.expanduser("~/.local/state"), "voltizug")
     with contextlib.suppress(OSError):
         os.makedirs(folder, mode=0o700, exist_ok=True)
         if os.access(folder, os.W_OK):

@@ -55,9 +55,13 @@ def broken(line: str, width: int) -> List[str]:
 
 
 def cut(line: str, width: int) -> str:
-    """Returns a line that fits, without its end if it is too long."""
+    """Returns a line that fits, without its end if it is too long; of what becomes a stem the end of that is left out, and not the stem."""
     if columns(line) <= width:
         return line
+    names, arrow, stem = line.rpartition(" -> ")
+    if arrow and width > columns("  merged   .." + arrow + stem) and not line.startswith("  split "):
+        names = cut(names, width - columns(arrow + stem))
+        return (names.rpartition(", ")[0] + ", .." if ", " in names else names) + arrow + stem
     line = line[: 2 * width]
     while columns(line) > width - 2:
         line = line[:-1]

@@ -48,8 +48,7 @@ def lints(bench: Bench, has_all: bool = False) -> List[str]:
     found += wrong_ways(places, bench, outcomes) if outcomes and places.entries else []
     beyond = [token for token in tokens if has_all and token.kind == "literal" and not token.text.isascii()]
     others = " (and {})".format(counted(len(beyond) - 1, "more literal")) if len(beyond) > 1 else ""
-    what = "%s has a letter beyond ASCII%s: other compilers ask for a stringdef"
-    found += [(token.start, what % (short(token.text), others)) for token in beyond[:1]]
+    found += [(token.start, "%s has a letter beyond ASCII%s: other compilers ask for a stringdef" % (short(token.text), others)) for token in beyond[:1]]
     shown = ["%s: %s" % (named(spot(places, start)), what) for start, what in sorted(found)]
     more = len(shown) - MOST if not has_all else 0
     shown = shown[: len(shown) - max(0, more)] + ['.. and {:,} more: "lint" shows all'.format(more)] * (more > 0)
@@ -94,12 +93,11 @@ def bare_commands(places: Places, tokens: Sequence[Token]) -> Iterable[Tuple[int
     """A routine that changes something and may fail, or ( .. or such a routine ), without `do` and before something else in an external."""
     declared = takewhile(lambda token: token.text != ")", dropwhile(lambda token: token.text != "externals", tokens))
     doubtful = may_fail(places) & those_with(CHANGING, places)
-    what = "if {0} fails, nothing after it in {1} runs: do {0} is meant, perhaps"
     for name in [token.text for token in declared if places.kind(token.text) == "routine"]:
         part = places.part(name)[BODY:]
         for i, end in bare(part):
             if part[end].text in doubtful or i < end and part[end - 2].text == "or" and part[end - 1].text in doubtful:
-                yield part[i].start, what.format("( .. )" if i < end else part[i].text, name)
+                yield part[i].start, "if {0} fails, nothing after it in {1} runs: do {0} is meant, perhaps".format("( .. )" if i < end else part[i].text, name)
 
 
 def bare(part: Sequence[Token]) -> Iterable[Tuple[int, int]]:
@@ -172,12 +170,11 @@ def half_done(places: Places) -> Iterable[Tuple[int, str]]:
     """The first command on the left of an `or`, or of a routine there, that changes the text, if what comes after it on the left may fail."""
     bodies = {name: places.part(name)[BODY:] for name in places.of_kind("routine")}
     doubtful = {*FAILING, *places.of_kind("grouping"), *may_fail(places)}
-    what = "if what comes after this {} fails, the text stays changed: the or puts back the cursor alone"
     for side in (left_side(body, i, bodies) for body in bodies.values() for i, token in enumerate(body) if token.text == "or"):
         depths = list(accumulate((token.text == "(") - (token.text == ")") for token in side))
         at = next((i for i, token in enumerate(side) if token.text in CHANGING_TEXT and not depths[i]), len(side))
         if any(token.kind == "literal" or token.text in doubtful for token in unsure(side[at:])):
-            yield side[at].start, what.format(side[at].text)
+            yield side[at].start, "if what comes after this %s fails, the text stays changed: the or puts back the cursor alone" % side[at].text
 
 
 def left_side(body: Sequence[Token], at: int, bodies: Dict[str, List[Token]]) -> Sequence[Token]:
@@ -313,9 +310,15 @@ def strange_strings(places: Places, outcomes: Sequence[Outcome], tokens: Sequenc
         return
     there: Set[str] = set().union(*put_in(tokens), *(row.word + row.stem * (row.kind == "stem") for row in outcomes))
     for (_, _, string), row in places.entries.items():
-        strange = " ".join(sorted(set(string) - there))
+        strange = list(map(letter, sorted(set(string) - there)))
         if strange:
-            yield int(row.start), "'%s' has %s, which no word has and no command puts in" % (short(string), short(strange))
+            yield int(row.start), "'%s' has %s, which no word has and no command puts in" % (short(string), in_words(strange, "and", 6))
+
+
+def letter(c: str) -> str:
+    """Returns a letter with its number if it is not of ASCII: letters of two alphabets can look the same. Of one that is not seen it is the number."""
+    number = {" ": "a blank", "\t": "a tab"}.get(c, "U+%04X" % ord(c))
+    return c if "!" <= c <= "~" else "%s (%s)" % (c, number) if unicodedata.category(c)[0] in "LNPS" else number
 
 
 def put_in(tokens: Sequence[Token]) -> Iterable[str]:

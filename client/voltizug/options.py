@@ -4,6 +4,8 @@ import os
 import re
 from typing import NamedTuple, Optional, Sequence
 
+from .near import meant
+
 HAS = "It has --watch, --rows, --text, --color WHEN, --no-pager, --external NAME, --from TEXT and --stop FILE"
 FLAGS, VALUES = ("--watch", "--no-pager", "--rows", "--text"), ("--program", "--color", "--external", "--from", "--stop")
 THIRD = "Stems are for mark FILE and families for families FILE, at its prompt"
@@ -13,7 +15,7 @@ CALLED = os.environ.get("SNOWBENCH_CALLED") or "./snowbench"
 
 
 class Misuse(Exception):
-    """What is wrong with the command line, as a sentence."""
+    """What is wrong with the command line, as sentences, each of which is a line."""
 
 
 class Options(NamedTuple):
@@ -42,7 +44,8 @@ def options_of(given: Sequence[str]) -> Options:
         if why.msg.endswith("requires argument"):
             raise Misuse("--%s needs a word after it" % why.opt) from None
         wrong = next(word for word in given if re.match("--?" + re.escape(why.opt), word))
-        raise Misuse("work has no option %s. %s" % (wrong, HAS)) from None
+        question = meant(wrong.partition("=")[0], re.findall("--[a-z-]+", HAS)).strip()
+        raise Misuse("work has no option %s. %s" % (wrong, HAS), *[question] * bool(question)) from None
     found = dict(pairs)
     external, color = found.get("--external", "stem"), found.get("--color", "auto")
     for is_wrong, why in (

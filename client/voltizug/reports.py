@@ -201,9 +201,9 @@ REPORTS: Dict[str, Callable[[Sequence[str]], List[str]]] = {
 PLACED: Dict[str, Callable[[Sequence[str], Places], List[str]]] = {"unused": unused, "counts": counts}
 # What is shown for replies without a row.
 EMPTY = {
-    "unused": "some word uses each routine, among, grouping and string", "uses": "no word uses it", "find": "no word and no stem has it",
-    "history": "no edit is held: there is nothing to undo", "stems": "there are no words: add WORD", "classes": "there are no classes",
-    "largest": "there are no classes", "trace": "the run uses no routine, among or grouping",
+    "unused": "nothing is unused: each routine, among, grouping and string has a word that uses it", "uses": "no word uses it",
+    "find": "no word and no stem has it", "history": "no edit is held: there is nothing to undo", "stems": "there are no words: add WORD",
+    "classes": "there are no classes", "largest": "there are no classes", "trace": "the run uses no routine, among or grouping",
 }
 
 

@@ -10,7 +10,7 @@ from typing import Any, List, Sequence, Tuple
 
 from . import commands, kept, layout, lints, loops, options, reports, rows, screen, warn, words
 from .bench import Bench, typed_edits
-from .commands import BLOCKS, COMMANDS, LANGUAGE, OPEN_BLOCKS, REPORTING, ROWS, WITH_TEXT
+from .commands import BEFORE_FILE, BLOCKS, COMMANDS, LANGUAGE, NO_FILE, OPEN_BLOCKS, REPORTING, ROWS, WITH_TEXT
 from .conditions import with_tests
 from .desk import Desk
 from .keys import Broken, Dropped, Hangup
@@ -19,7 +19,7 @@ from .places import BOM, readable
 from .program import DONE, LONGEST, encoded
 
 DEFINITION = re.compile(r"\s*define\s+([A-Za-z][A-Za-z0-9_]*)\s+(as(?=\s|$))?")
-TO_FILE = re.compile(r"(.*\S)\s+>\s*(\S+)\s*\Z")
+TO_FILE = re.compile(r"(.*\S)\s+>\s*(\S+|[^|>\s][^|>]*\S)\s*\Z")
 USAGE = "usage: %s work [--watch] [--rows | --text] [--color WHEN] [--no-pager] [--external NAME] [--from TEXT] [--stop FILE] SCRIPT [WORDS]" % options.CALLED
 # Replies that are not broken, since an author wrote them.
 TEXTS = ("script", "show", "echo", *ROWS)
@@ -28,15 +28,17 @@ FIGURES = {"changes": 1, "last": 1, "families": 2}
 
 
 def tidy(line: str) -> str:
-    """Returns a line without the blanks that belong to no word."""
+    """Returns a line without the blanks that belong to no word, and with the home folder for the ~ of a file."""
     line = line.lstrip() if "".join(line.split()[:1]) in COMMANDS else line
     line = line if line.partition(" ")[0] in WITH_TEXT else line.rstrip()
     command, _, argument = {"exit": "quit", "?": "help"}.get(line, line).partition(" ")
-    if command not in COMMANDS or command in WITH_TEXT and command != "uses":
-        return line
-    # (TAB writes a blank after the command, and one types another)
-    argument = " ".join(argument.split()) if command == "among" else argument.lstrip()
-    return command + " " * bool(argument) + argument
+    if command in COMMANDS and (command not in WITH_TEXT or command == "uses"):
+        # (TAB writes a blank after the command, and one types another)
+        argument = " ".join(argument.split()) if command == "among" else argument.lstrip()
+        line = command + " " * bool(argument) + argument
+    for before in BEFORE_FILE:
+        line = re.sub(r"\A(%s)(~.*)" % before, lambda found: found[1] + os.path.expanduser(found[2]), line)
+    return line
 
 
 class Terminal(Desk):
@@ -62,8 +64,8 @@ class Terminal(Desk):
             self.screen.say("A file has a fault, so no command runs yet. Correct it there%s. quit or Ctrl-D ends." % then)
         elif len(encoded(line)) > LONGEST:
             self.screen.say(words.SENTENCES[72])
-        elif command in COMMANDS and COMMANDS[command].takes == "FILE" and re.match("[<>|]", argument) and command not in REPORTING:
-            self.screen.say("%s takes the name of a file, without a sign before it: %s." % (command, COMMANDS[command].usage))
+        elif wrong := words.strange(line, NO_FILE):
+            self.screen.say(wrong)
         elif line == "families" and self.bench.families and not self.editor.pending:
             self.ask("families " + self.bench.families)
         elif line in ("", "reload", "undo", "redo") or command in ("limit", "replace") and argument:
@@ -110,7 +112,7 @@ class Terminal(Desk):
         else:
             shown = [] if reply.lines == ["ok"] else reports.laid_out(command, reply.lines, self.bench.places)
         if path:
-            self.keep_report(typed, os.path.expanduser(path), shown)
+            self.keep_report(typed, path, shown)
         else:
             self.screen.write(shown, is_report=command in REPORTING, is_text=command in TEXTS, last=FIGURES.get(command, 0))
 
@@ -229,11 +231,17 @@ class Terminal(Desk):
         parts, reply = text.split(), "one"
         if len(parts) > 1 and not self.editor.pending:
             prompt = 'Add %d words (%s)? y adds them, "one" adds one word with blanks in it, Enter adds nothing: '
-            reply = (self.editor.read(layout.named(prompt % (len(parts), in_words(parts, "and", 6)))) or "").strip().lower()
+            reply = self.asked(prompt % (len(parts), in_words(parts, "and", 6))).lower()
         for word in {"one": [text], "y": parts, "yes": parts}.get(reply, []):
             self.ask("add " + word)
         if reply not in ("", "one", "y", "yes"):
             self.screen.say("Nothing was added: %s is no answer to this." % words.in_quotes(reply, True))
+
+    def asked(self, question: str) -> str:
+        """Returns what is typed after a question. It is broken at blanks here: readline breaks a word."""
+        *lines, last = self.screen.broken([question])
+        self.screen.write(lines)
+        return (self.editor.read(last) or "").strip()
 
     def write(self, command: str, path: str) -> None:
         """Has the script or the stems written to a file."""
@@ -290,9 +298,8 @@ class Terminal(Desk):
         if what == "drop":
             for old in left:
                 self.bench.kept.forget(old.room)
+        if not left or what == "drop":
             self.screen.say("They are forgotten." if left else "No typed edits were left behind.")
-        elif not left:
-            self.screen.say("No typed edits were left behind.")
         else:
             last = left[-1]
             for word in [word for word in last.words if word not in before]:
@@ -311,7 +318,7 @@ class Terminal(Desk):
             self.screen.say(begins % (short(name), line))
             return line + " 1"
         if count and not self.editor.pending:
-            number = (self.editor.read(layout.named(words.which_among(name, self.bench))) or "").strip()
+            number = self.asked(words.which_among(name, self.bench))
             return number and line + " " + number
         return line
 
@@ -336,7 +343,8 @@ class Terminal(Desk):
                 self.editor.remember(line)
             self.screen.say("The block is dropped%s." % ("; the up arrow brings its lines back" if len(block) > 1 else ""))
         elif end != ".":
-            self.screen.say("Nothing was done: the block has no line with only a point at its end.")
+            self.editor.remember(*(block if len(block) > 1 else []))
+            self.screen.say("Nothing was done: the block has no line with only a point at its end.", "The up arrow brings the block back, and Enter opens it again.")
         elif block[0] == "families":
             reply = self.bench.ask(*block, ".")
             if self.is_done(reply, "families"):
@@ -448,7 +456,7 @@ def main(given: Sequence[str]) -> int:
     try:
         found = options.options_of(given)
     except options.Misuse as why:
-        print("snowbench: %s\n%s" % (layout.named(str(why)), USAGE), file=sys.stderr)
+        print("snowbench: " + "\n".join([*map(layout.named, why.args), USAGE]), file=sys.stderr)
         return 2
     files = [found.script, found.words] if found.words else [found.script]
     if found.has_rows or not (os.isatty(0) and os.isatty(1)):

@@ -4,7 +4,7 @@ import os
 import re
 import shlex
 import tempfile
-from typing import Callable, Dict, Sequence
+from typing import Callable, Dict, Sequence, Tuple
 
 from .bench import Bench, Stage
 from .commands import COMMANDS, NAMED, OPEN_BLOCKS, STRANGE
@@ -15,13 +15,11 @@ from .places import Places
 from .options import CALLED
 from .program import Reply, encoded
 
-# By the number of a refusal its sentence. {c} is the command, {a} what follows it, {path} its file.
+# By the number of a refusal its sentence, if there is more to say than that nothing changed. {c} is the command, {a} what follows it.
 SENTENCES: Dict[int, str] = {
     40: "{a} is in the vocabulary already.",
     43: "A word may have 255 characters at most.",
     44: "The vocabulary has 100,000 words, and takes no more. remove WORD makes room.",
-    47: "Nothing changed.",
-    48: "Nothing changed.",
     49: "There was not enough memory. Nothing changed; you can try again.",
     50: "The count of runs is at its end. Start again.",
     51: "A limit is a number from 1 to 10,000,000, such as limit 1000.",
@@ -96,9 +94,8 @@ def refused(code: int, line: str, bench: Stage) -> str:
         return "%s needs a %s: %s." % (command, COMMANDS[command].takes.partition(" ")[0].lower(), COMMANDS[command].usage)
     if code in SPECIAL:
         return SPECIAL[code](line, bench)
-    path, (name, k, string) = file_of(line, bench), [*argument.split(" ", 2), "", ""][:3]
-    said = SENTENCES.get(code, "Nothing changed.")
-    return said.format(c=command, a=short(argument), k=k, string=short(string), name=short(name), path=short(path))
+    name, k, string = [*argument.split(" ", 2), "", ""][:3]
+    return SENTENCES.get(code, "Nothing changed.").format(c=command, a=short(argument), k=k, string=short(string), name=short(name))
 
 
 def file_of(line: str, bench: Stage) -> str:
@@ -120,8 +117,11 @@ def absent(line: str, bench: Stage) -> str:
         question = " It is there in another form of Unicode (NFC and NFD are different words)."
     if command == "class" and bench.known("stem " + word) is not None:
         return "%s is a stem and no word: stem %s shows its words." % (in_quotes(word), short(word))
-    why = "" if found or command in ("remove", "why") or word != word.strip() else ' "why %s" shows how it would be stemmed.' % short(word)
-    return "%s is not in the vocabulary.%s%s" % (in_quotes(word), question, why)
+    ways = ['"why {0}" shows how it would be stemmed'] * (not found and command not in ("remove", "why"))
+    # (an editor, which has a Stage, adds no words)
+    ways += ['"add {0}" adds it'] * (isinstance(bench, Bench) and not same and command in ("class", "trace"))
+    then = " %s." % ", ".join(ways).format(short(word)) if ways and word == word.strip() else ""
+    return "%s is not in the vocabulary.%s%s" % (in_quotes(word), question, then)
 
 
 def misspelt(word: str, bench: Bench) -> str:
@@ -135,7 +135,7 @@ def misspelt(word: str, bench: Bench) -> str:
 def no_class(line: str, bench: Stage) -> str:
     stem = line.partition(" ")[2]
     how = "It is a word: why %s shows its stem." if stem in bench.by_word() else "find %s shows the words and stems that have it in them."
-    return ("No word has the stem %s. " + how) % (in_quotes(stem), short(stem)) if stem else "No word has the empty stem."
+    return ("No word has the stem %s. " + how) % (in_quotes(stem), short(stem)) if stem else "stem needs a stem: stem STEM. No word has the empty one."
 
 
 def other_lines(line: str, bench: Stage) -> str:
@@ -148,8 +148,8 @@ def no_stem(_: str, bench: Stage) -> str:
     if not refused:
         return "A stem has a line feed, or ends in a carriage return, and is not one line. Nothing was written."
     more = " and of {:,} more".format(len(refused) - 1) if len(refused) > 1 else ""
-    where = "why %s shows where. Nothing was written." % short(refused[0])
-    return "The run of %s%s is refused, so there is no stem to write: %s" % (in_quotes(refused[0]), more, where)
+    said = "The run of %s%s is refused, so there is no stem to write: why %s shows where. Nothing was written."
+    return said % (in_quotes(refused[0]), more, short(refused[0]))
 
 
 def no_name(line: str, bench: Stage) -> str:
@@ -215,10 +215,10 @@ def unknown(line: str, bench: Stage) -> str:
     return no_command(line)
 
 
-def strange(line: str) -> str:
-    """The sentence for a line that is another thing than a command; nothing if that is not known."""
-    said = next((said for begins, said in STRANGE if re.match(begins, line)), "")
-    return said.format(c=line.partition(" ")[0], called=named(CALLED))
+def strange(line: str, table: Sequence[Tuple[str, str]] = STRANGE) -> str:
+    """The sentence of a table for a line: of this one, if it is another thing than a command. Nothing if that is not known."""
+    command, said = line.partition(" ")[0], next((said for begins, said in table if re.match(begins, line)), "")
+    return said.format(c=command, called=named(CALLED), usage=COMMANDS[command].usage if command in COMMANDS else "")
 
 
 def no_command(line: str) -> str:
@@ -320,8 +320,7 @@ def may_not(why: str, command: str, path: str, then: str = "") -> str:
     to, folder = "save to %s file" if command == "save" else "name %s file", os.path.dirname(path) or "."
     room = no_room(folder) if "{room}" in MAY_NOT[why] else ""
     other, new = to % "another", to % "a new"
-    fields = {"other": other, "Other": other.capitalize(), "new": new, "then": then, "folder": short(folder), "room": room}
-    return MAY_NOT[why].format(path=short(path), c=command, **fields)
+    return MAY_NOT[why].format(path=short(path), c=command, other=other, Other=other.capitalize(), new=new, then=then, folder=short(folder), room=room)
 
 
 # By the number of a refusal what makes its sentence of the line and the bench.

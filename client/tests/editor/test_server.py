@@ -351,7 +351,7 @@ class Words(OverServer):
         self.assertEqual(editor.run("why", uri, "x" * 256), ["A word may have 255 characters at most."])
         self.assertIn("cannot be read: there is no such file", editor.run("families", uri, "/nowhere/families")[0])
         self.assertIn("ed", "".join(editor.run("counts", uri)))
-        self.assertIn("some word uses", editor.run("unused", uri)[0])
+        self.assertIn("nothing is unused: ", editor.run("unused", uri)[0])
         self.assertEqual(editor.run("differ", uri), [])
         self.assertEqual(editor.run("changes", uri), ["no word and no class differs from the mark"])
         for string, word in (("es", "walked"), ("ed", "walked"), ("es", "walked")):

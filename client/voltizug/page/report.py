@@ -12,7 +12,7 @@ import sys
 import tempfile
 from typing import Any, Dict, List, NamedTuple, Sequence, Tuple
 
-from .. import rows
+from .. import reports, rows
 from ..kept import read_file
 from ..layout import counted, named
 from ..options import usual_program
@@ -22,10 +22,7 @@ from .ink import shown_text
 
 HERE = os.path.dirname(os.path.realpath(__file__))
 VERSION = os.path.join(HERE, "..", "..", "..", "VERSION")
-FIGURES = {
-    "words": "words", "classes": "classes", "alone": "classes of one word", "largest": "words in the largest class",
-    "unchanged": "words that are their own stem", "refused": "words refused",
-}
+FIGURES = {"words": "words", "classes": "classes", **{key: reports.FIGURES[key] for key in ("alone", "largest", "unchanged")}, "refused": "words refused"}
 KINDS = {
     "changed": ("word has another stem", "words have another stem"), "split": ("class split", "classes split"),
     "merged": ("class merged", "classes merged"), "renamed": ("class renamed", "classes renamed"),
@@ -292,11 +289,8 @@ def main(given: Sequence[str]) -> int:
         sys.stdout.buffer.write(text.encode("utf-8", "replace"))
         sys.stdout.flush()
         return int(options.markdown and found.differing > 0)
-    except Fault as fault:
-        print("\n".join(fault.args[0]), file=sys.stderr)
-        return 2
-    except OSError as fault:
-        print("snowbench: %s" % fault.strerror, file=sys.stderr)
+    except (Fault, OSError) as fault:
+        print("\n".join(fault.args[0]) if isinstance(fault, Fault) else "snowbench: %s" % fault.strerror, file=sys.stderr)
         return 2
     finally:
         shutil.rmtree(room, ignore_errors=True)
