@@ -1,4 +1,5 @@
 """What the program says of a text that is in no file: its faults, its tokens, and what can come at a place. The text is read from memory."""
+import os
 import re
 from typing import Any, Dict, List, NamedTuple, Optional, Sequence, Set, Tuple
 
@@ -37,7 +38,8 @@ def place_of(said: Sequence[str], *names: str) -> Place:
 
 def begun(command: str, external: str, script: Memory, words: Optional[str] = None) -> Program:
     """Begins a program over texts in memory, and waits until it has read them."""
-    program = Program([command, "work", "--text", "--external", external], script.path, words, "/nowhere")
+    # (without a folder a run that is given up is ended with its program)
+    program = Program([command, "work", "--text", "--external", external], script.path, words, os.devnull)
     program.begin([], script.path)
     program.ask(["echo"], PATIENCE)
     return program
