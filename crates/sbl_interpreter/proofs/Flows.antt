@@ -1,23 +1,31 @@
 -- What a kind of instruction does from the state in which its steps are paid.
 use Rattle.std.proofs.Common.{◌≡◌, ℕ, zero, suc, ◌<◌, ◌≤◌, Bool, true, false, List, [], ◌∷◌, map, length, get_or, Option, Some, Result, Err, arith, rules, refl, sym, ap, ◌∙◌, Box, Vec, Global}
+use Rattle.std.specs.Prelude.{IfOk}
+use Rattle.std.proofs.lemmas.Result.{IfOk-weaker}
 use Rattle.std.specs.declared.rc.Rc.{Rc}
 use Rattle.sbl_program.specs.AmongStrings.{Listing}
+use Rattle.sbl_program.specs.Actions.{test_grouping}
 use Rattle.sbl_program.specs.Program as programs
+use Rattle.sbl_program.specs.Terms.{class_at}
 use Rattle.sbl_run_state.specs.declared.halt.Halt.{Halt}
 use Rattle.sbl_run_state.specs.Endings.{Follows}
 use Rattle.sbl_program.specs.Rows.{pays}
 use Rattle.sbl_run_state.proofs.EarlyEnds.{follows_at, after_halts}
 use Rattle.sbl_semantics.specs.Choices.{choice}
-use Rattle.sbl_semantics.specs.State.{State, Ending, Signals, Stops, after, pay, then_on}
+use Rattle.sbl_semantics.specs.Moves.{match}
+use Rattle.sbl_semantics.specs.Slices.{left_bracket}
+use Rattle.sbl_semantics.specs.State.{State, Ending, Signals, Stops, after, pay, then_on, saved_cursor}
 use Rattle.sbl_semantics.specs.declared.cursor.SavedCursor.{SavedCursor}
 use Rattle.sbl_ast.specs.declared.mode.Mode.{Mode}
+use Rattle.sbl_ast.specs.declared.mode.Mode.TheVariants.{Forward, Backward}
 use Rattle.sbl_code.specs.declared.instruction.GroupCode.{GroupCode, out-GroupCode}
 use Rattle.sbl_code.specs.declared.instruction.Instruction.{Instruction}
-use Rattle.sbl_code.specs.declared.instruction.Instruction.TheVariants.{Repeat, Choose}
+use Rattle.sbl_code.specs.declared.instruction.Instruction.TheVariants.{Character, Grouping, LeftBracket, Repeat, Choose}
 use Rattle.sbl_code.specs.declared.instruction.Instruction.TheFolds.{fold_out-GroupCode}
 use Rattle.sbl_code.specs.declared.instruction.Instruction.TheViews.{the_lemmas}
-use Rattle.sbl_code.specs.Flow.{Flow, flow, group_flow, alone, chosen_flow, turns_of}
-use Rattle.sbl_code.proofs.Instructions.{flow_repeat, flow_choose}
+use Rattle.sbl_code.specs.Flow.{Flow, flow, back_if, group_flow, alone, chosen_flow, turns_of}
+use Rattle.sbl_code.proofs.Instructions.{flow_character, flow_grouping, flow_left_bracket, flow_repeat, flow_choose}
+use Rattle.sbl_code.proofs.PerformingAt.{match_stays, grouping_stays, back_stays}
 
 abbrev I : Type 0
 I = Rc Instruction Global
@@ -64,9 +72,55 @@ group_is p levels tables x = first_of (search (rules, the_lemmas), search (rules
 pub group_does : (p : programs.Program) (levels : ℕ) (tables : ℕ → Listing) (m : Mode) (slots : List SavedCursor) (s : State) (x : GroupCode) (y : Instruction) → y ≡ (out-GroupCode x).first.value → group_flow p levels tables x m slots s ≡ flow p levels tables y m slots s
 group_does p levels tables m slots s x y h = ap (λ (f : Flow). f m slots s) (group_is p levels tables x) ∙ ap (λ (i : Instruction). flow p levels tables i m slots s) (sym h)
 
+pub left_steps : (m : Mode) (s : State) → (left_bracket m s).steps ≡ s.steps
+left_steps Forward s = refl
+left_steps Backward s = refl
+
+-- no steps are added where the last call adds none
+pub no_more_than : (r : Result Bool Halt) (new mid old : ℕ) → mid ≤ old → IfOk r (λ b. new ≤ mid) → IfOk r (λ b. new ≤ old)
+no_more_than r new mid old l h = IfOk-weaker r (λ b. new ≤ mid) (λ b. new ≤ old) (λ b below. omega (arith, below, l)) h
+
 module _ (p : programs.Program) (levels : ℕ) (tables : ℕ → Listing) (m : Mode) (slots : List SavedCursor) (s : State) (at : Instruction) where
   abbrev F : Instruction → Flow
   F = flow p levels tables
+
+  -- a test whose steps are paid goes on at `next` on t, and at `fail` on f, where the cursor has stayed
+  tested : (cost : ℕ) (test : State → Ending) (back : Bool) (next fail : I) (u new : State) → F at m slots s ≡ then_on (pays cost s) (λ v. after (test v) (F next.value m slots) (back_if back m v (F fail.value m slots))) → pays cost s ≡ Signals true u → test u ≡ Signals true new → F at m slots s ≡ F next.value m slots new
+  tested cost test back next fail u new flows h t =
+      flows ∙ ap (λ r. then_on r (λ v. after (test v) (F next.value m slots) (back_if back m v (F fail.value m slots)))) h ∙ ap (λ r. after r (F next.value m slots) (back_if back m u (F fail.value m slots))) t
+
+  missed : (cost : ℕ) (test : State → Ending) (back : Bool) (next fail : I) (u new : State) → F at m slots s ≡ then_on (pays cost s) (λ v. after (test v) (F next.value m slots) (back_if back m v (F fail.value m slots))) → pays cost s ≡ Signals true u → test u ≡ Signals false new → saved_cursor new ≡ saved_cursor u → new.cursor ≤ length new.text → F at m slots s ≡ F fail.value m slots new
+  missed cost test back next fail u new flows h t stayed inside =
+      flows ∙ ap (λ r. then_on r (λ v. after (test v) (F next.value m slots) (back_if back m v (F fail.value m slots)))) h ∙ ap (λ r. after r (F next.value m slots) (back_if back m u (F fail.value m slots))) t ∙ back_stays back m u new (F fail.value m slots) stayed inside
+
+  pub character_taken : (cost wanted : ℕ) (back : Bool) (next fail : I) (u new : State) → at ≡ Character cost wanted back next fail → pays cost s ≡ Signals true u → match (wanted ∷ []) m u ≡ Signals true new → F at m slots s ≡ F next.value m slots new
+  character_taken cost wanted back next fail u new is h t =
+      tested cost (match (wanted ∷ []) m) back next fail u new (ap (λ (i : Instruction). F i m slots s) is ∙ flow_character p levels tables m slots s cost wanted back next fail) h t
+
+  pub character_missed : (cost wanted : ℕ) (back : Bool) (next fail : I) (u new : State) → at ≡ Character cost wanted back next fail → pays cost s ≡ Signals true u → match (wanted ∷ []) m u ≡ Signals false new → new.cursor ≤ length new.text → F at m slots s ≡ F fail.value m slots new
+  character_missed cost wanted back next fail u new is h t inside =
+      missed cost (match (wanted ∷ []) m) back next fail u new (ap (λ (i : Instruction). F i m slots s) is ∙ flow_character p levels tables m slots s cost wanted back next fail) h t (match_stays (wanted ∷ []) m u new t) inside
+
+  pub grouping_taken : (cost : ℕ) (wanted : Bool) (g : ℕ) (back : Bool) (next fail : I) (u new : State) → at ≡ Grouping cost wanted g back next fail → pays cost s ≡ Signals true u → test_grouping wanted (class_at p.groupings g) g m u ≡ Signals true new → F at m slots s ≡ F next.value m slots new
+  grouping_taken cost wanted g back next fail u new is h t =
+      tested cost (test_grouping wanted (class_at p.groupings g) g m) back next fail u new (ap (λ (i : Instruction). F i m slots s) is ∙ flow_grouping p levels tables m slots s cost wanted g back next fail) h t
+
+  pub grouping_missed : (cost : ℕ) (wanted : Bool) (g : ℕ) (back : Bool) (next fail : I) (u new : State) → at ≡ Grouping cost wanted g back next fail → pays cost s ≡ Signals true u → test_grouping wanted (class_at p.groupings g) g m u ≡ Signals false new → new.cursor ≤ length new.text → F at m slots s ≡ F fail.value m slots new
+  grouping_missed cost wanted g back next fail u new is h t inside =
+      missed cost (test_grouping wanted (class_at p.groupings g) g m) back next fail u new (ap (λ (i : Instruction). F i m slots s) is ∙ flow_grouping p levels tables m slots s cost wanted g back next fail) h t (grouping_stays wanted (class_at p.groupings g) g m u new t) inside
+
+  -- a grouping that halts
+  pub grouping_halts : (cost : ℕ) (wanted : Bool) (g : ℕ) (back : Bool) (next fail : I) (u : State) (r : Result Bool Halt) (halt : Halt) (new : State) → r ≡ Err halt → at ≡ Grouping cost wanted g back next fail → pays cost s ≡ Signals true u → Follows (Err halt) new (test_grouping wanted (class_at p.groupings g) g m u) → Follows r new (F at m slots s)
+  grouping_halts cost wanted g back next fail u r halt new e is h halts =
+      ends_early r halt new (F at m slots s) (test_grouping wanted (class_at p.groupings g) g m u) (F next.value m slots) (back_if back m u (F fail.value m slots)) e
+      (ap (λ (i : Instruction). F i m slots s) is
+      ∙ flow_grouping p levels tables m slots s cost wanted g back next fail
+      ∙ ap (λ r. then_on r (λ v. after (test_grouping wanted (class_at p.groupings g) g m v) (F next.value m slots) (back_if back m v (F fail.value m slots)))) h)
+      halts
+
+  pub left_bracketed : (cost : ℕ) (next : I) (u new : State) → at ≡ LeftBracket cost next → pays cost s ≡ Signals true u → new ≡ left_bracket m u → F at m slots s ≡ F next.value m slots new
+  left_bracketed cost next u new is h e =
+      ap (λ (i : Instruction). F i m slots s) is ∙ flow_left_bracket p levels tables m slots s cost next ∙ ap (λ r. then_on r (λ v. F next.value m slots (left_bracket m v))) h ∙ ap (F next.value m slots) (sym e)
 
   pub repeat_paid : (cost : ℕ) (body next : I) (x : Instruction) (u : State) → at ≡ Repeat cost body next → IsPaid cost s u → x ≡ body.value → F at m slots s ≡ after (turns_of (alone (F x)) m u) (F next.value m slots) (Signals false)
   repeat_paid cost body next x u is h hx =

@@ -1,5 +1,5 @@
 -- What an instruction that runs others does from the state in which its steps are paid.
-use Rattle.std.proofs.Common.{◌≡◌, ◌⊎◌, inl, inr, ℕ, Bool, true, false, List, Result, Err, rules, sym, ap, ◌∙◌, Box, Global}
+use Rattle.std.proofs.Common.{◌≡◌, ◌⊎◌, inl, inr, ℕ, Bool, true, false, List, Result, Err, rules, refl, sym, ap, ◌∙◌, Box, Global}
 use Rattle.std.specs.declared.rc.Rc.{Rc}
 use Rattle.sbl_program.specs.AmongStrings.{Listing}
 use Rattle.sbl_program.specs.Program as programs
@@ -97,6 +97,19 @@ module _ (p : programs.Program) (levels : ℕ) (tables : ℕ → Listing) where
     pub inner_unpaid : (r : Result Bool Halt) (halt : Halt) (new : State) (w : Ending) (cost : ℕ) (next fail : I) → r ≡ Err halt → F at m slots s ≡ w → IsInner cost next fail → Follows (Err halt) new (then_on (pays cost s) (λ v. pay v.steps v)) → Follows r new w
     inner_unpaid r halt new w cost next fail e inv is h =
         rw e (follows_at (Err halt) new w _ (sym inv ∙ inner_flows cost next fail is) (unpaid_of (pays cost s) (λ v. pay v.steps v) (D at m) (F next.value m slots) (F fail.value m slots) halt new h))
+
+    pub search_unpaid : (r : Result Bool Halt) (halt : Halt) (new : State) (cost among : ℕ) (site : Box SearchSite Global) (next fail : I) → r ≡ Err halt → at ≡ Search cost among site next fail → Follows (Err halt) new (then_on (pays cost s) (λ v. pay v.steps v)) → Follows r new (F at m slots s)
+    search_unpaid r halt new cost among site next fail e is h =
+        inner_unpaid r halt new (F at m slots s) cost next fail e refl (inr (inr (inr (inr (inr (inr (among, site, is))))))) h
+
+    -- a search whose steps are paid, with the site that is read
+    pub search_exits : (cost among : ℕ) (site : Box SearchSite Global) (next fail : I) (x : SearchSite) (u : State) → at ≡ Search cost among site next fail → x ≡ site.value → IsPaid cost s u → F at m slots s ≡ after (search_all (calls p levels) among x.entries.items (tables x.table) m u) (F next.value m slots) (F fail.value m slots)
+    search_exits cost among site next fail x u is hx h =
+        has_exits cost next fail u (inr (inr (inr (inr (inr (inr (among, site, is))))))) h
+        ∙ ap (λ r. after r (F next.value m slots) (F fail.value m slots))
+        (ap (λ (i : Instruction). D i m u) is
+        ∙ ap (λ (d : Doing). d m u) (does_search cost among site next fail)
+        ∙ ap (λ (z : SearchSite). search_all (calls p levels) among z.entries.items (tables z.table) m u) (sym hx))
 
   module _ (m : Mode) (s new : State) (at : Instruction) (r : Result Bool Halt) where
     pub follows_loop : (cost : ℕ) (count : Box Arithmetic Global) (body next fail : I) (k : Arithmetic) (x : Instruction) → at ≡ Loop cost count body next fail → k ≡ count.value → x ≡ body.value → Follows r new (loop_of (view_number k) (alone (F x)) m s) → Follows r new (D at m s)

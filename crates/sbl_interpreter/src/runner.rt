@@ -10,6 +10,7 @@ ghost use Rattle.sbl_code.specs.Slots.{no_cursors};
 ghost use Rattle.sbl_code.specs.Flow.{flow, loop_of, at_least_of, turns_of, seek_of, backwards_of, limited_of};
 ghost use Rattle.sbl_interpreter.specs.Inner.{alone_in, inner_of, program_in};
 
+mod bodies;
 mod searching;
 
 use crate::slots::SavedCursors;
@@ -299,7 +300,7 @@ impl<'a, T: Tables> Runner<'a, T> {
         let mut left = state.steps();
         loop {
             let from = state.saved_cursor();
-            if !self.run_from(body, state)? {
+            if !self.run_body(body, state)? {
                 state.put_back(self.mode, from)?;
                 return Ok(());
             }
@@ -363,7 +364,7 @@ impl<'a, T: Tables> Runner<'a, T> {
         let mut left = state.steps();
         loop {
             let from = state.saved_cursor();
-            if self.run_from(body, state)? {
+            if self.run_body(body, state)? {
                 if !past {
                     state.put_back(self.mode, from)?;
                 }

@@ -5,6 +5,7 @@ mod Calls
 mod Inner
 mod Payments
 mod Tests
+mod Bodies
 use Rattle.sbl_interpreter.proofs.runner.Runner.+run.Goals as goal
 use Rattle.sbl_interpreter.proofs.runner.Runner.+run.Answers.Instructions as instructions
 use Rattle.sbl_interpreter.proofs.runner.Runner.+run.Answers.Choices as choices
@@ -12,6 +13,7 @@ use Rattle.sbl_interpreter.proofs.runner.Runner.+run.Answers.Calls as calls
 use Rattle.sbl_interpreter.proofs.runner.Runner.+run.Answers.Inner as inner
 use Rattle.sbl_interpreter.proofs.runner.Runner.+run.Answers.Payments as payments
 use Rattle.sbl_interpreter.proofs.runner.Runner.+run.Answers.Tests as tests
+use Rattle.sbl_interpreter.proofs.runner.Runner.+run.Answers.Bodies as bodies
 
 pub run_from-returns-in_err-run_turns-in-Repeat-clause-follows : goal.run_from-returns-in_err-run_turns-in-Repeat-clause-follows
 run_from-returns-in_err-run_turns-in-Repeat-clause-follows = instructions.run_from-returns-in_err-run_turns-in-Repeat-clause-follows
@@ -141,3 +143,63 @@ run_from-loop-at-preserved-then-take_next = tests.run_from-loop-at-preserved-the
 
 pub run_from-loop-at-preserved-else-take_next : goal.run_from-loop-at-preserved-else-take_next
 run_from-loop-at-preserved-else-take_next = tests.run_from-loop-at-preserved-else-take_next
+
+pub run_body-returns-in_err-pay_for-in-Grouping-clause-follows : goal.run_body-returns-in_err-pay_for-in-Grouping-clause-follows
+run_body-returns-in_err-pay_for-in-Grouping-clause-follows = bodies.run_body-returns-in_err-pay_for-in-Grouping-clause-follows
+
+pub run_body-returns-in_err-pay_for-in-Character-clause-follows : goal.run_body-returns-in_err-pay_for-in-Character-clause-follows
+run_body-returns-in_err-pay_for-in-Character-clause-follows = bodies.run_body-returns-in_err-pay_for-in-Character-clause-follows
+
+pub run_body-returns-in_err-pay_for-in-LeftBracket-clause-follows : goal.run_body-returns-in_err-pay_for-in-LeftBracket-clause-follows
+run_body-returns-in_err-pay_for-in-LeftBracket-clause-follows = bodies.run_body-returns-in_err-pay_for-in-LeftBracket-clause-follows
+
+pub run_body-returns-in_err-take_grouping-in-Grouping-clause-follows : goal.run_body-returns-in_err-take_grouping-in-Grouping-clause-follows
+run_body-returns-in_err-take_grouping-in-Grouping-clause-follows = bodies.run_body-returns-in_err-take_grouping-in-Grouping-clause-follows
+
+pub run_body-returns-then-branch-clause-follows : goal.run_body-returns-then-branch-clause-follows
+run_body-returns-then-branch-clause-follows = bodies.run_body-returns-then-branch-clause-follows
+
+pub run_body-returns-then-branch-clause-no_more : goal.run_body-returns-then-branch-clause-no_more
+run_body-returns-then-branch-clause-no_more = bodies.run_body-returns-then-branch-clause-no_more
+
+pub run_body-returns-else-branch-clause-follows : goal.run_body-returns-else-branch-clause-follows
+run_body-returns-else-branch-clause-follows = bodies.run_body-returns-else-branch-clause-follows
+
+pub run_body-returns-else-branch-clause-no_more : goal.run_body-returns-else-branch-clause-no_more
+run_body-returns-else-branch-clause-no_more = bodies.run_body-returns-else-branch-clause-no_more
+
+pub run_body-returns-then-take_character-clause-follows : goal.run_body-returns-then-take_character-clause-follows
+run_body-returns-then-take_character-clause-follows = bodies.run_body-returns-then-take_character-clause-follows
+
+pub run_body-returns-then-take_character-clause-no_more : goal.run_body-returns-then-take_character-clause-no_more
+run_body-returns-then-take_character-clause-no_more = bodies.run_body-returns-then-take_character-clause-no_more
+
+pub run_body-returns-else-take_character-clause-follows : goal.run_body-returns-else-take_character-clause-follows
+run_body-returns-else-take_character-clause-follows = bodies.run_body-returns-else-take_character-clause-follows
+
+pub run_body-returns-else-take_character-clause-no_more : goal.run_body-returns-else-take_character-clause-no_more
+run_body-returns-else-take_character-clause-no_more = bodies.run_body-returns-else-take_character-clause-no_more
+
+pub run_body-returns-in_ok-pay_for-in-LeftBracket-clause-follows : goal.run_body-returns-in_ok-pay_for-in-LeftBracket-clause-follows
+run_body-returns-in_ok-pay_for-in-LeftBracket-clause-follows = bodies.run_body-returns-in_ok-pay_for-in-LeftBracket-clause-follows
+
+pub run_body-returns-in_ok-pay_for-in-LeftBracket-clause-no_more : goal.run_body-returns-in_ok-pay_for-in-LeftBracket-clause-no_more
+run_body-returns-in_ok-pay_for-in-LeftBracket-clause-no_more = bodies.run_body-returns-in_ok-pay_for-in-LeftBracket-clause-no_more
+
+pub run_bracketed-returns-in_err-pay_all-in-Search-clause-follows : goal.run_bracketed-returns-in_err-pay_all-in-Search-clause-follows
+run_bracketed-returns-in_err-pay_all-in-Search-clause-follows = bodies.run_bracketed-returns-in_err-pay_all-in-Search-clause-follows
+
+pub run_bracketed-returns-in_err-run_search_all-in-Search-clause-follows : goal.run_bracketed-returns-in_err-run_search_all-in-Search-clause-follows
+run_bracketed-returns-in_err-run_search_all-in-Search-clause-follows = bodies.run_bracketed-returns-in_err-run_search_all-in-Search-clause-follows
+
+pub run_bracketed-returns-then-branch-clause-follows : goal.run_bracketed-returns-then-branch-clause-follows
+run_bracketed-returns-then-branch-clause-follows = bodies.run_bracketed-returns-then-branch-clause-follows
+
+pub run_bracketed-returns-then-branch-clause-no_more : goal.run_bracketed-returns-then-branch-clause-no_more
+run_bracketed-returns-then-branch-clause-no_more = bodies.run_bracketed-returns-then-branch-clause-no_more
+
+pub run_bracketed-returns-else-branch-clause-follows : goal.run_bracketed-returns-else-branch-clause-follows
+run_bracketed-returns-else-branch-clause-follows = bodies.run_bracketed-returns-else-branch-clause-follows
+
+pub run_bracketed-returns-else-branch-clause-no_more : goal.run_bracketed-returns-else-branch-clause-no_more
+run_bracketed-returns-else-branch-clause-no_more = bodies.run_bracketed-returns-else-branch-clause-no_more

@@ -13,40 +13,49 @@ use Rattle.sbl_interpreter.proofs.runner.Runner.+run.Given as goal
 -- Each of these calls of another is after a step or has a smaller summand.
 
 abbrev pub decreases-run_from : goal.decreases-run_from
-decreases-run_from g l = 6 * l.state.now.steps
+decreases-run_from g l = 8 * l.state.now.steps
 
 abbrev pub decreases-run_inner : goal.decreases-run_inner
-decreases-run_inner g l = 6 * l.state.now.steps + 5
+decreases-run_inner g l = 8 * l.state.now.steps + 6
 
 abbrev pub decreases-run_turns : goal.decreases-run_turns
-decreases-run_turns g l = 6 * l.state.now.steps + 1
+decreases-run_turns g l = 8 * l.state.now.steps + 4
+
+abbrev pub decreases-run_body : goal.decreases-run_body
+decreases-run_body g l = 8 * l.state.now.steps + 3
+
+abbrev pub decreases-run_bracketed : goal.decreases-run_bracketed
+decreases-run_bracketed g l = 8 * l.state.now.steps + 2
+
+abbrev pub decreases-run_exit : goal.decreases-run_exit
+decreases-run_exit g l = 8 * l.state.now.steps + 1
 
 abbrev pub decreases-run_times : goal.decreases-run_times
-decreases-run_times g l = 6 * l.state.now.steps + 1
+decreases-run_times g l = 8 * l.state.now.steps + 1
 
 abbrev pub decreases-run_at_least : goal.decreases-run_at_least
-decreases-run_at_least g l = 6 * l.state.now.steps + 2
+decreases-run_at_least g l = 8 * l.state.now.steps + 5
 
 abbrev pub decreases-run_tries : goal.decreases-run_tries
-decreases-run_tries g l = 6 * l.state.now.steps + 1
+decreases-run_tries g l = 8 * l.state.now.steps + 4
 
 abbrev pub decreases-run_backwards : goal.decreases-run_backwards
-decreases-run_backwards g l = 6 * l.state.now.steps + 1
+decreases-run_backwards g l = 8 * l.state.now.steps + 1
 
 abbrev pub decreases-run_limited : goal.decreases-run_limited
-decreases-run_limited g l = 6 * l.state.now.steps + 1
+decreases-run_limited g l = 8 * l.state.now.steps + 1
 
 abbrev pub decreases-run_call : goal.decreases-run_call
-decreases-run_call g l = 6 * l.state.now.steps + 1
+decreases-run_call g l = 8 * l.state.now.steps + 1
 
 abbrev pub decreases-run_search_all : goal.decreases-run_search_all
-decreases-run_search_all g l = 6 * l.state.now.steps + 4
+decreases-run_search_all g l = 8 * l.state.now.steps + 4
 
 abbrev pub decreases-run_search : goal.decreases-run_search
-decreases-run_search g l = 6 * l.state.now.steps + 3
+decreases-run_search g l = 8 * l.state.now.steps + 3
 
 abbrev pub decreases-try_string : goal.decreases-try_string
-decreases-try_string g l = 6 * l.state.now.steps + 2
+decreases-try_string g l = 8 * l.state.now.steps + 2
 
 -- what is left does from here what all of it does from the start
 abbrev pub invariant-run_from-loop-at : goal.invariant-run_from-loop-at

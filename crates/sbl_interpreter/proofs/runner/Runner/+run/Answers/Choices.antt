@@ -1,17 +1,15 @@
 -- What the loop over instructions owes at the choice of a group and at a grouping.
-use Rattle.std.proofs.Common.{◌≡◌, ℕ, Bool, List, map, Some, ◌≤◌, ◌<◌, true, false, sym, ap, ◌∙◌, arith, length, get_or, Vec, Global}
+use Rattle.std.proofs.Common.{◌≡◌, map, Some, ◌≤◌, ◌<◌, true, false, sym, ap, ◌∙◌, arith, length, get_or, Vec, Global}
 use Rattle.sbl_program.specs.CharacterClasses.{members}
 use Rattle.sbl_program.specs.Terms.{class_at}
 use Rattle.sbl_program.specs.ProgramOf.{program_of}
 use Rattle.sbl_program.specs.declared.node.Program.{Program}
 use Rattle.sbl_program.specs.Actions.{test_grouping}
 use Rattle.sbl_semantics.specs.Choices.{choice}
-use Rattle.sbl_semantics.specs.State.{State, Signals, after, then_on}
-use Rattle.sbl_code.specs.Flow.{flow, back_if}
+use Rattle.sbl_semantics.specs.State.{Signals}
+use Rattle.sbl_code.specs.Flow.{flow}
 use Rattle.sbl_code.specs.declared.instruction.GroupCode.{GroupCode, out-GroupCode}
-use Rattle.sbl_code.proofs.Instructions.{flow_grouping}
-use Rattle.sbl_code.proofs.PerformingAt.{grouping_stays, back_stays}
-use Rattle.sbl_interpreter.proofs.Flows.{chosen_at, chosen_past, group_does}
+use Rattle.sbl_interpreter.proofs.Flows.{chosen_at, chosen_past, group_does, grouping_taken, grouping_missed}
 use Rattle.sbl_interpreter.proofs.runner.Runner.+run.Goals as goal
 
 pub run_from-loop-at-preserved-in-None-get : goal.run_from-loop-at-preserved-in-None-get
@@ -74,19 +72,16 @@ run_from-loop-at-preserved-then-branch-3 g t c =
     let s = c.loop-at.state in
     let slots = c.loop-at.slots in
     let a = c.in-Grouping in
-    let f = flow P levels T a.next.value m slots in
-    let e = flow P levels T a.fail.value m slots in
     let u = c.pay_for-in-Grouping.new.self in
     let new = c.take_grouping.new.self in
-    let test = λ (cs : List (ℕ → Bool)) (u : State). test_grouping a.wanted (class_at cs a.grouping) a.grouping m u in
-    let whole = sym inv.0 ∙ ap (λ x. flow P levels T x m slots s) a.is ∙ flow_grouping P levels T m slots s a.cost a.wanted a.grouping a.back a.next a.fail ∙ ap (λ r. then_on r (λ u. after (test P.groupings u) f (back_if a.back m u e))) c.in_ok-pay_for-in-Grouping.ensures.leads in
     let classes : map members c.deref-in-Grouping.result.now ≡ P.groupings = ap (map members) c.deref-in-Grouping.ensures.value ∙ ap (λ (x : Program). map members x.groupings.items) c.program-in-Grouping.ensures in
     let b : c.in_ok-take_grouping-in-Grouping.field-0 ≡ true = c.if-branch-3.true in
-    let h = whole ∙ ap (λ r. after r f (back_if a.back m u e)) (ap (λ cs. test cs u) (sym classes) ∙ c.in_ok-take_grouping-in-Grouping.ensures.follows ∙ ap (λ v. Signals v new) b) in
-    let same : new.steps ≡ u.steps = c.in_ok-take_grouping-in-Grouping.ensures.same_steps in
+    let is = ap (λ cs. test_grouping a.wanted (class_at cs a.grouping) a.grouping m u) (sym classes) ∙ c.in_ok-take_grouping-in-Grouping.ensures.follows ∙ ap (λ v. Signals v new) b in
+    let whole = sym inv.0 ∙ grouping_taken P levels T m slots s c.loop-at.at.now a.cost a.wanted a.grouping a.back a.next a.fail u new a.is c.in_ok-pay_for-in-Grouping.ensures.leads is in
     let no_more : u.steps ≤ s.steps = c.in_ok-pay_for-in-Grouping.ensures.no_more in
+    let same : new.steps ≡ u.steps = c.in_ok-take_grouping-in-Grouping.ensures.same_steps in
     let steps : new.steps ≤ c.args.state.now.steps = omega (arith, same, no_more, inv.1) in
-    (ap (λ x. flow P levels T x m slots new) c.deref-at-then-branch-3.ensures ∙ sym h, steps)
+    (ap (λ x. flow P levels T x m slots new) c.deref-at-then-branch-3.ensures ∙ sym whole, steps)
 
 pub run_from-loop-at-preserved-else-branch-3 : goal.run_from-loop-at-preserved-else-branch-3
 run_from-loop-at-preserved-else-branch-3 g t c =
@@ -98,18 +93,14 @@ run_from-loop-at-preserved-else-branch-3 g t c =
     let s = c.loop-at.state in
     let slots = c.loop-at.slots in
     let a = c.in-Grouping in
-    let f = flow P levels T a.next.value m slots in
-    let e = flow P levels T a.fail.value m slots in
     let u = c.pay_for-in-Grouping.new.self in
     let new = c.take_grouping.new.self in
-    let test = λ (cs : List (ℕ → Bool)) (u : State). test_grouping a.wanted (class_at cs a.grouping) a.grouping m u in
-    let whole = sym inv.0 ∙ ap (λ x. flow P levels T x m slots s) a.is ∙ flow_grouping P levels T m slots s a.cost a.wanted a.grouping a.back a.next a.fail ∙ ap (λ r. then_on r (λ u. after (test P.groupings u) f (back_if a.back m u e))) c.in_ok-pay_for-in-Grouping.ensures.leads in
     let classes : map members c.deref-in-Grouping.result.now ≡ P.groupings = ap (map members) c.deref-in-Grouping.ensures.value ∙ ap (λ (x : Program). map members x.groupings.items) c.program-in-Grouping.ensures in
     let b : c.in_ok-take_grouping-in-Grouping.field-0 ≡ false = c.if-branch-3.false in
-    let h = whole ∙ ap (λ r. after r f (back_if a.back m u e)) (ap (λ cs. test cs u) (sym classes) ∙ c.in_ok-take_grouping-in-Grouping.ensures.follows ∙ ap (λ v. Signals v new) b) in
-    let same : new.steps ≡ u.steps = c.in_ok-take_grouping-in-Grouping.ensures.same_steps in
-    let no_more : u.steps ≤ s.steps = c.in_ok-pay_for-in-Grouping.ensures.no_more in
-    let steps : new.steps ≤ c.args.state.now.steps = omega (arith, same, no_more, inv.1) in
+    let is = ap (λ cs. test_grouping a.wanted (class_at cs a.grouping) a.grouping m u) (sym classes) ∙ c.in_ok-take_grouping-in-Grouping.ensures.follows ∙ ap (λ v. Signals v new) b in
     let inside : new.cursor ≤ length new.text = omega (arith, c.place-else-branch-3.ensures.value, c.place-else-branch-3.ensures.within) in
-    let stayed = grouping_stays a.wanted (class_at P.groupings a.grouping) a.grouping m u new (ap (λ cs. test cs u) (sym classes) ∙ c.in_ok-take_grouping-in-Grouping.ensures.follows ∙ ap (λ v. Signals v new) b) in
-    (ap (λ x. flow P levels T x m slots new) c.deref-at-else-branch-3.ensures ∙ sym (h ∙ back_stays a.back m u new e stayed inside), steps)
+    let whole = sym inv.0 ∙ grouping_missed P levels T m slots s c.loop-at.at.now a.cost a.wanted a.grouping a.back a.next a.fail u new a.is c.in_ok-pay_for-in-Grouping.ensures.leads is inside in
+    let no_more : u.steps ≤ s.steps = c.in_ok-pay_for-in-Grouping.ensures.no_more in
+    let same : new.steps ≡ u.steps = c.in_ok-take_grouping-in-Grouping.ensures.same_steps in
+    let steps : new.steps ≤ c.args.state.now.steps = omega (arith, same, no_more, inv.1) in
+    (ap (λ x. flow P levels T x m slots new) c.deref-at-else-branch-3.ensures ∙ sym whole, steps)

@@ -1,19 +1,14 @@
 -- What the loop over instructions owes after a step, a test or a bracket.
-use Rattle.std.proofs.Common.{◌≡◌, ◌≤◌, [], ◌∷◌, length, refl, sym, ap, ◌∙◌, arith}
+use Rattle.std.proofs.Common.{◌≡◌, ◌≤◌, length, refl, sym, ap, ◌∙◌, arith}
 use Rattle.sbl_program.specs.ProgramOf.{program_of}
-use Rattle.sbl_semantics.specs.Slices.{left_bracket, right_bracket}
+use Rattle.sbl_semantics.specs.Slices.{right_bracket}
 use Rattle.sbl_semantics.specs.State.{State, Signals, after}
 use Rattle.sbl_ast.specs.declared.mode.Mode.{Mode}
 use Rattle.sbl_ast.specs.declared.mode.Mode.TheVariants.{Forward, Backward}
-use Rattle.sbl_code.specs.Flow.{flow, back_if}
-use Rattle.sbl_code.proofs.Instructions.{flow_pay, flow_character, flow_left_bracket, flow_right_bracket, flow_boolean, flow_next}
-use Rattle.sbl_code.proofs.PerformingAt.{match_stays, back_stays}
-use Rattle.sbl_interpreter.proofs.Flows.{then_paid}
+use Rattle.sbl_code.specs.Flow.{flow}
+use Rattle.sbl_code.proofs.Instructions.{flow_pay, flow_right_bracket, flow_boolean, flow_next}
+use Rattle.sbl_interpreter.proofs.Flows.{then_paid, left_steps, left_bracketed, character_taken, character_missed}
 use Rattle.sbl_interpreter.proofs.runner.Runner.+run.Goals as goal
-
-left_steps : (m : Mode) (s : State) → (left_bracket m s).steps ≡ s.steps
-left_steps Forward s = refl
-left_steps Backward s = refl
 
 right_steps : (m : Mode) (s : State) → (right_bracket m s).steps ≡ s.steps
 right_steps Forward s = refl
@@ -47,11 +42,11 @@ run_from-loop-at-preserved-in-LeftBracket-1 g t c =
     let a = c.in-LeftBracket in
     let u = c.pay_for-in-LeftBracket.new.self in
     let no_more : u.steps ≤ s.steps = c.in_ok-pay_for-in-LeftBracket.ensures.no_more in
-    let paid = then_paid _ _ s u a.cost _ inv.0 (ap (λ x. flow P levels T x m slots s) a.is ∙ flow_left_bracket P levels T m slots s a.cost a.next) c.in_ok-pay_for-in-LeftBracket.ensures.leads in
     let new = c.left_bracket.new.self in
+    let whole = sym inv.0 ∙ left_bracketed P levels T m slots s c.loop-at.at.now a.cost a.next u new a.is c.in_ok-pay_for-in-LeftBracket.ensures.leads c.left_bracket.ensures in
     let same : new.steps ≡ u.steps = ap (λ (x : State). x.steps) c.left_bracket.ensures ∙ left_steps m u in
     let steps : new.steps ≤ c.args.state.now.steps = omega (arith, same, no_more, inv.1) in
-    (ap (λ x. flow P levels T x m slots new) c.deref-at-in-LeftBracket.ensures ∙ ap (flow P levels T a.next.value m slots) c.left_bracket.ensures ∙ sym paid, steps)
+    (ap (λ x. flow P levels T x m slots new) c.deref-at-in-LeftBracket.ensures ∙ sym whole, steps)
 
 pub run_from-loop-at-preserved-in-RightBracket-1 : goal.run_from-loop-at-preserved-in-RightBracket-1
 run_from-loop-at-preserved-in-RightBracket-1 g t c =
@@ -82,16 +77,13 @@ run_from-loop-at-preserved-then-take_character g t c =
     let slots = c.loop-at.slots in
     let a = c.in-Character in
     let u = c.pay_for-in-Character.new.self in
-    let no_more : u.steps ≤ s.steps = c.in_ok-pay_for-in-Character.ensures.no_more in
-    let paid = then_paid _ _ s u a.cost _ inv.0 (ap (λ x. flow P levels T x m slots s) a.is ∙ flow_character P levels T m slots s a.cost a.character a.back a.next a.fail) c.in_ok-pay_for-in-Character.ensures.leads in
-    let f = flow P levels T a.next.value m slots in
-    let e = flow P levels T a.fail.value m slots in
     let new = c.take_character.new.self in
     let is = c.take_character.ensures.leads ∙ ap (λ v. Signals v new) c.if-take_character.true in
-    let h = paid ∙ ap (λ r. after r f (back_if a.back m u e)) is in
+    let whole = sym inv.0 ∙ character_taken P levels T m slots s c.loop-at.at.now a.cost a.character a.back a.next a.fail u new a.is c.in_ok-pay_for-in-Character.ensures.leads is in
+    let no_more : u.steps ≤ s.steps = c.in_ok-pay_for-in-Character.ensures.no_more in
     let same : new.steps ≡ u.steps = c.take_character.ensures.same_steps in
     let steps : new.steps ≤ c.args.state.now.steps = omega (arith, same, no_more, inv.1) in
-    (ap (λ x. flow P levels T x m slots new) c.deref-at-then-take_character.ensures ∙ sym h, steps)
+    (ap (λ x. flow P levels T x m slots new) c.deref-at-then-take_character.ensures ∙ sym whole, steps)
 
 pub run_from-loop-at-preserved-else-take_character : goal.run_from-loop-at-preserved-else-take_character
 run_from-loop-at-preserved-else-take_character g t c =
@@ -104,18 +96,14 @@ run_from-loop-at-preserved-else-take_character g t c =
     let slots = c.loop-at.slots in
     let a = c.in-Character in
     let u = c.pay_for-in-Character.new.self in
-    let no_more : u.steps ≤ s.steps = c.in_ok-pay_for-in-Character.ensures.no_more in
-    let paid = then_paid _ _ s u a.cost _ inv.0 (ap (λ x. flow P levels T x m slots s) a.is ∙ flow_character P levels T m slots s a.cost a.character a.back a.next a.fail) c.in_ok-pay_for-in-Character.ensures.leads in
-    let f = flow P levels T a.next.value m slots in
-    let e = flow P levels T a.fail.value m slots in
     let new = c.take_character.new.self in
     let is = c.take_character.ensures.leads ∙ ap (λ v. Signals v new) c.if-take_character.false in
-    let h = paid ∙ ap (λ r. after r f (back_if a.back m u e)) is in
+    let inside : new.cursor ≤ length new.text = omega (arith, c.place.ensures.value, c.place.ensures.within) in
+    let whole = sym inv.0 ∙ character_missed P levels T m slots s c.loop-at.at.now a.cost a.character a.back a.next a.fail u new a.is c.in_ok-pay_for-in-Character.ensures.leads is inside in
+    let no_more : u.steps ≤ s.steps = c.in_ok-pay_for-in-Character.ensures.no_more in
     let same : new.steps ≡ u.steps = c.take_character.ensures.same_steps in
     let steps : new.steps ≤ c.args.state.now.steps = omega (arith, same, no_more, inv.1) in
-    let inside : new.cursor ≤ length new.text = omega (arith, c.place.ensures.value, c.place.ensures.within) in
-    let stayed = match_stays (a.character ∷ []) m u new is in
-    (ap (λ x. flow P levels T x m slots new) c.deref-at-else-take_character.ensures ∙ sym (h ∙ back_stays a.back m u new e stayed inside), steps)
+    (ap (λ x. flow P levels T x m slots new) c.deref-at-else-take_character.ensures ∙ sym whole, steps)
 
 pub run_from-loop-at-preserved-then-test_boolean : goal.run_from-loop-at-preserved-then-test_boolean
 run_from-loop-at-preserved-then-test_boolean g t c =
