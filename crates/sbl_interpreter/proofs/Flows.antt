@@ -85,29 +85,29 @@ module _ (p : programs.Program) (levels : ℕ) (tables : ℕ → Listing) (m : M
   F = flow p levels tables
 
   -- a test whose steps are paid goes on at `next` on t, and at `fail` on f, where the cursor has stayed
-  tested : (cost : ℕ) (test : State → Ending) (back : Bool) (next fail : I) (u new : State) → F at m slots s ≡ then_on (pays cost s) (λ v. after (test v) (F next.value m slots) (back_if back m v (F fail.value m slots))) → pays cost s ≡ Signals true u → test u ≡ Signals true new → F at m slots s ≡ F next.value m slots new
-  tested cost test back next fail u new flows h t =
+  at_next : (cost : ℕ) (test : State → Ending) (back : Bool) (next fail : I) (u new : State) → F at m slots s ≡ then_on (pays cost s) (λ v. after (test v) (F next.value m slots) (back_if back m v (F fail.value m slots))) → pays cost s ≡ Signals true u → test u ≡ Signals true new → F at m slots s ≡ F next.value m slots new
+  at_next cost test back next fail u new flows h t =
       flows ∙ ap (λ r. then_on r (λ v. after (test v) (F next.value m slots) (back_if back m v (F fail.value m slots)))) h ∙ ap (λ r. after r (F next.value m slots) (back_if back m u (F fail.value m slots))) t
 
-  missed : (cost : ℕ) (test : State → Ending) (back : Bool) (next fail : I) (u new : State) → F at m slots s ≡ then_on (pays cost s) (λ v. after (test v) (F next.value m slots) (back_if back m v (F fail.value m slots))) → pays cost s ≡ Signals true u → test u ≡ Signals false new → saved_cursor new ≡ saved_cursor u → new.cursor ≤ length new.text → F at m slots s ≡ F fail.value m slots new
-  missed cost test back next fail u new flows h t stayed inside =
+  at_fail : (cost : ℕ) (test : State → Ending) (back : Bool) (next fail : I) (u new : State) → F at m slots s ≡ then_on (pays cost s) (λ v. after (test v) (F next.value m slots) (back_if back m v (F fail.value m slots))) → pays cost s ≡ Signals true u → test u ≡ Signals false new → saved_cursor new ≡ saved_cursor u → new.cursor ≤ length new.text → F at m slots s ≡ F fail.value m slots new
+  at_fail cost test back next fail u new flows h t stayed inside =
       flows ∙ ap (λ r. then_on r (λ v. after (test v) (F next.value m slots) (back_if back m v (F fail.value m slots)))) h ∙ ap (λ r. after r (F next.value m slots) (back_if back m u (F fail.value m slots))) t ∙ back_stays back m u new (F fail.value m slots) stayed inside
 
   pub character_taken : (cost wanted : ℕ) (back : Bool) (next fail : I) (u new : State) → at ≡ Character cost wanted back next fail → pays cost s ≡ Signals true u → match (wanted ∷ []) m u ≡ Signals true new → F at m slots s ≡ F next.value m slots new
   character_taken cost wanted back next fail u new is h t =
-      tested cost (match (wanted ∷ []) m) back next fail u new (ap (λ (i : Instruction). F i m slots s) is ∙ flow_character p levels tables m slots s cost wanted back next fail) h t
+      at_next cost (match (wanted ∷ []) m) back next fail u new (ap (λ (i : Instruction). F i m slots s) is ∙ flow_character p levels tables m slots s cost wanted back next fail) h t
 
   pub character_missed : (cost wanted : ℕ) (back : Bool) (next fail : I) (u new : State) → at ≡ Character cost wanted back next fail → pays cost s ≡ Signals true u → match (wanted ∷ []) m u ≡ Signals false new → new.cursor ≤ length new.text → F at m slots s ≡ F fail.value m slots new
   character_missed cost wanted back next fail u new is h t inside =
-      missed cost (match (wanted ∷ []) m) back next fail u new (ap (λ (i : Instruction). F i m slots s) is ∙ flow_character p levels tables m slots s cost wanted back next fail) h t (match_stays (wanted ∷ []) m u new t) inside
+      at_fail cost (match (wanted ∷ []) m) back next fail u new (ap (λ (i : Instruction). F i m slots s) is ∙ flow_character p levels tables m slots s cost wanted back next fail) h t (match_stays (wanted ∷ []) m u new t) inside
 
   pub grouping_taken : (cost : ℕ) (wanted : Bool) (g : ℕ) (back : Bool) (next fail : I) (u new : State) → at ≡ Grouping cost wanted g back next fail → pays cost s ≡ Signals true u → test_grouping wanted (class_at p.groupings g) g m u ≡ Signals true new → F at m slots s ≡ F next.value m slots new
   grouping_taken cost wanted g back next fail u new is h t =
-      tested cost (test_grouping wanted (class_at p.groupings g) g m) back next fail u new (ap (λ (i : Instruction). F i m slots s) is ∙ flow_grouping p levels tables m slots s cost wanted g back next fail) h t
+      at_next cost (test_grouping wanted (class_at p.groupings g) g m) back next fail u new (ap (λ (i : Instruction). F i m slots s) is ∙ flow_grouping p levels tables m slots s cost wanted g back next fail) h t
 
   pub grouping_missed : (cost : ℕ) (wanted : Bool) (g : ℕ) (back : Bool) (next fail : I) (u new : State) → at ≡ Grouping cost wanted g back next fail → pays cost s ≡ Signals true u → test_grouping wanted (class_at p.groupings g) g m u ≡ Signals false new → new.cursor ≤ length new.text → F at m slots s ≡ F fail.value m slots new
   grouping_missed cost wanted g back next fail u new is h t inside =
-      missed cost (test_grouping wanted (class_at p.groupings g) g m) back next fail u new (ap (λ (i : Instruction). F i m slots s) is ∙ flow_grouping p levels tables m slots s cost wanted g back next fail) h t (grouping_stays wanted (class_at p.groupings g) g m u new t) inside
+      at_fail cost (test_grouping wanted (class_at p.groupings g) g m) back next fail u new (ap (λ (i : Instruction). F i m slots s) is ∙ flow_grouping p levels tables m slots s cost wanted g back next fail) h t (grouping_stays wanted (class_at p.groupings g) g m u new t) inside
 
   -- a grouping that halts
   pub grouping_halts : (cost : ℕ) (wanted : Bool) (g : ℕ) (back : Bool) (next fail : I) (u : State) (r : Result Bool Halt) (halt : Halt) (new : State) → r ≡ Err halt → at ≡ Grouping cost wanted g back next fail → pays cost s ≡ Signals true u → Follows (Err halt) new (test_grouping wanted (class_at p.groupings g) g m u) → Follows r new (F at m slots s)
