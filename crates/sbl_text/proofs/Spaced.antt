@@ -4,6 +4,7 @@ use Rattle.std.specs.Prelude.{not, ◌||◌, ◌==◌, if◌then◌else◌, enco
 use Rattle.std.specs.Str.{chars, IsUtf8, bytes_eq, all_scalars}
 use Rattle.std.specs.List.{list_all, AllByRecursion}
 use Rattle.std.specs.Fmt.{decimal}
+use Rattle.std.specs.Char.{is_ascii_digit}
 use Rattle.std.proofs.lemmas.Bool.Decides.{nat_tests}
 use Rattle.std.proofs.lemmas.Fmt.{decimal_by_steps, IsAscii-decimal}
 use Rattle.std.proofs.lemmas.Nat.{div-add-mod'}
@@ -18,7 +19,7 @@ use Rattle.sbl_text.specs.declared.pieces.Shape.TheVariants as shape
 use Rattle.sbl_text.specs.declared.pieces.Expectation.{Expectation}
 use Rattle.sbl_text.specs.declared.pieces.Expectation.TheVariants as wanted
 use Rattle.sbl_text.specs.declared.escapes.Inserts.{Inserts}
-use Rattle.sbl_text.specs.Classes.{is_white, is_digit, is_word}
+use Rattle.sbl_text.specs.Classes.{is_white, is_word}
 use Rattle.sbl_token.specs.Words.{word_text, words, word_of}
 use Rattle.sbl_token.specs.Signs.{sign_text}
 use Rattle.sbl_token.specs.SignCuts.{two, sign_of}
@@ -106,7 +107,7 @@ same_text s shape.BlockComment t l u n told = absurd told
 -- ---- numbers
 
 abbrev Digits : List ℕ → Type 0
-Digits ds = (c : ℕ) × (cs : List ℕ) × (ds ≡ c ∷ cs) × (is_digit c ≡ true) × (list_all is_digit cs ≡ true)
+Digits ds = (c : ℕ) × (cs : List ℕ) × (ds ≡ c ∷ cs) × (is_ascii_digit c ≡ true) × (list_all is_ascii_digit cs ≡ true)
 
 all_more : (p : ℕ → Bool) (xs : List ℕ) (x : ℕ) → list_all p xs ≡ true → p x ≡ true → list_all p (xs ++ x ∷ []) ≡ true
 all_more p [] x h k = rw k refl
@@ -116,7 +117,7 @@ digits_more : (m : ℕ) (ds : List ℕ) (d : ℕ) → digits_value m (ds ++ d �
 digits_more m [] d = refl
 digits_more m (c ∷ ds) d = digits_more (m * 10 + (c - 48)) ds d
 
-digit_is : (m : ℕ) → m < 10 → is_digit (48 + m) ≡ true
+digit_is : (m : ℕ) → m < 10 → is_ascii_digit (48 + m) ≡ true
 digit_is m h = grind (arith, nat_tests)
 
 decimal_number : (n : ℕ) → n < 2 ^ 64 → Digits (decimal n) × (number_of (decimal n) ≡ n)
@@ -130,7 +131,7 @@ decimal_number n h = decimal_by_steps (λ m ds. Digits ds × (number_of ds ≡ m
         let small : m % 10 < 10 = omega arith in
         let split = div-add-mod' m 10 in
         let value : number_of ds * 10 + (48 + m % 10 - 48) ≡ m = omega (arith, r.1, split) in (
-          (r.0.0, r.0.1 ++ (48 + m % 10) ∷ [], ap (λ (t : List ℕ). t ++ (48 + m % 10) ∷ []) r.0.2, r.0.3, all_more is_digit r.0.1 (48 + m % 10) r.0.4 (digit_is (m % 10) small)),
+          (r.0.0, r.0.1 ++ (48 + m % 10) ∷ [], ap (λ (t : List ℕ). t ++ (48 + m % 10) ∷ []) r.0.2, r.0.3, all_more is_ascii_digit r.0.1 (48 + m % 10) r.0.4 (digit_is (m % 10) small)),
           digits_more 0 ds (48 + m % 10) ∙ value,
         )
 
@@ -192,7 +193,7 @@ run_ends p x xs ys z a b c h g all = all_at p xs c z (subst (λ (t : List ℕ). 
 white_no_word : (c : ℕ) → is_white c ≡ true → is_word c ≡ false
 white_no_word c h = grind (arith, nat_tests)
 
-white_no_digit : (c : ℕ) → is_white c ≡ true → is_digit c ≡ false
+white_no_digit : (c : ℕ) → is_white c ≡ true → is_ascii_digit c ≡ false
 white_no_digit c h = grind (arith, nat_tests)
 
 two_white : (a c : ℕ) → is_white c ≡ true → two a c ≡ None
@@ -215,7 +216,7 @@ literal_stops e x c z h g =
 
 no_longer : (e : Option Inserts) (k : Shape) (x : List ℕ) (c : ℕ) (z : List ℕ) → is_white c ≡ true → is_gap k ≡ false → Has e k x → Has e k (x ++ c ∷ z) → ⊥
 no_longer e shape.Word x c z w i h g = let p = run_ends is_word x h.1 g.1 z h.0 g.0 c h.2 g.2 g.4 in let n = white_no_word c w in absurd (cc (sym p ∙ n))
-no_longer e shape.Number x c z w i h g = let p = run_ends is_digit x h.1 g.1 z h.0 g.0 c h.2 g.2 g.4 in let n = white_no_digit c w in absurd (cc (sym p ∙ n))
+no_longer e shape.Number x c z w i h g = let p = run_ends is_ascii_digit x h.1 g.1 z h.0 g.0 c h.2 g.2 g.4 in let n = white_no_digit c w in absurd (cc (sym p ∙ n))
 no_longer e shape.MacroName x c z w i h g =
     let p = run_ends (λ d. not (is_white d)) x h.1 g.1 z h.0 g.0 c h.2 g.2 g.4 in let n : not (is_white c) ≡ false = ap not w in absurd (cc (sym p ∙ n))
 no_longer e shape.Sign x c z w i h g = sign_ends x c z h.0 g.0 w (sign_found_as x h.0 h.1) (sign_found_as (x ++ c ∷ z) g.0 g.1)

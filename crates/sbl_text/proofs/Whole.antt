@@ -1,6 +1,7 @@
 -- What `cut` cuts is the longest piece.
 use Rattle.std.proofs.Common.{◌≡◌, ℕ, ◌≤◌, Bool, true, false, List, [], ◌∷◌, ◌++◌, length, Option, Some, None, refl, sym, ap, subst, ◌∙◌, arith, append_assoc}
 use Rattle.std.specs.Prelude.{not, ◌||◌, ◌==◌, if◌then◌else◌, option_map, IfSome, MatchOption}
+use Rattle.std.specs.Char.{is_ascii_alphabetic, is_ascii_digit}
 use Rattle.std.proofs.lemmas.Bool.Decides.{nat_tests}
 use Rattle.std.proofs.lemmas.List.{length-append}
 use Rattle.sbl_token.specs.declared.signs.Sign.{Sign}
@@ -11,7 +12,7 @@ use Rattle.sbl_text.specs.declared.pieces.Expectation.TheVariants as wanted
 use Rattle.sbl_text.specs.declared.pieces.Start.{Start}
 use Rattle.sbl_text.specs.declared.pieces.Start.TheVariants as start
 use Rattle.sbl_text.specs.declared.escapes.Inserts.{Inserts}
-use Rattle.sbl_text.specs.Classes.{is_white, is_letter, is_digit, is_word}
+use Rattle.sbl_text.specs.Classes.{is_white, is_word}
 use Rattle.sbl_text.specs.Skip.{past}
 use Rattle.sbl_token.specs.SignCuts.{sign_of, sign_prefix, one, two}
 use Rattle.sbl_text.specs.Pieces.{Has, may_come, Setting, Stands, IsPiece, NoPiece, BeginsComment, Gap, AreGaps, AfterGaps, is_gap}
@@ -30,7 +31,7 @@ pub no_eq : (p : ℕ → Bool) (c n : ℕ) → p c ≡ true → p n ≡ false �
 no_eq p c n h k = no_eq_at p c n (c == n) refl h k
 
 plain : ℕ → Bool
-plain c = is_white c || (is_letter c || (is_digit c || c == 39))
+plain c = is_white c || (is_ascii_alphabetic c || (is_ascii_digit c || c == 39))
 
 pub if_same : (b : Bool) (x : Option Sign) → (if b then x else x) ≡ x
 if_same true x = refl
@@ -53,27 +54,27 @@ sign_starts_at a (b ∷ c ∷ y) s true i h = absurd (cc)
 sign_start : (a : ℕ) (y : List ℕ) (s : Sign) → sign_of (a ∷ y) ≡ Some s → start_of a ≡ (if a == 47 then start.Slash else start.Other)
 unfolding plain
 sign_start a y s h =
-    let p : is_white a || (is_letter a || (is_digit a || a == 39)) ≡ false = sign_starts_at a y s (plain a) refl h in
-    let p1 = or_right (is_white a) (is_letter a || (is_digit a || a == 39)) p in
-    let p2 = or_right (is_letter a) (is_digit a || a == 39) p1 in
-    rw (or_left (is_white a) (is_letter a || (is_digit a || a == 39)) p, or_left (is_letter a) (is_digit a || a == 39) p1, or_left (is_digit a) (a == 39) p2, or_right (is_digit a) (a == 39) p2) refl
+    let p : is_white a || (is_ascii_alphabetic a || (is_ascii_digit a || a == 39)) ≡ false = sign_starts_at a y s (plain a) refl h in
+    let p1 = or_right (is_white a) (is_ascii_alphabetic a || (is_ascii_digit a || a == 39)) p in
+    let p2 = or_right (is_ascii_alphabetic a) (is_ascii_digit a || a == 39) p1 in
+    rw (or_left (is_white a) (is_ascii_alphabetic a || (is_ascii_digit a || a == 39)) p, or_left (is_ascii_alphabetic a) (is_ascii_digit a || a == 39) p1, or_left (is_ascii_digit a) (a == 39) p2, or_right (is_ascii_digit a) (a == 39) p2) refl
 
 white_start : (c : ℕ) → is_white c ≡ true → start_of c ≡ start.White
 white_start c h = rw h refl
 
-letter_not_white : (c : ℕ) → is_letter c ≡ true → is_white c ≡ false
+letter_not_white : (c : ℕ) → is_ascii_alphabetic c ≡ true → is_white c ≡ false
 letter_not_white c h = grind (arith, nat_tests)
 
-digit_not_white : (c : ℕ) → is_digit c ≡ true → is_white c ≡ false
+digit_not_white : (c : ℕ) → is_ascii_digit c ≡ true → is_white c ≡ false
 digit_not_white c h = grind (arith, nat_tests)
 
-digit_not_letter : (c : ℕ) → is_digit c ≡ true → is_letter c ≡ false
+digit_not_letter : (c : ℕ) → is_ascii_digit c ≡ true → is_ascii_alphabetic c ≡ false
 digit_not_letter c h = grind (arith, nat_tests)
 
-letter_start : (c : ℕ) → is_letter c ≡ true → start_of c ≡ start.Letter
+letter_start : (c : ℕ) → is_ascii_alphabetic c ≡ true → start_of c ≡ start.Letter
 letter_start c h = rw (letter_not_white c h, h) refl
 
-digit_start : (c : ℕ) → is_digit c ≡ true → start_of c ≡ start.Digit
+digit_start : (c : ℕ) → is_ascii_digit c ≡ true → start_of c ≡ start.Digit
 digit_start c h = rw (digit_not_white c h, digit_not_letter c h, h) refl
 
 -- ---- no longer piece
@@ -115,7 +116,7 @@ longest_token e shape.Blank y more h may free =
 longest_token e shape.Word y more h may free =
     subst (λ (t : List ℕ). LeavesCut shape.Word (length more) (cut e (t ++ more))) (sym h.2) (along e shape.Word (length more) h.0 (h.1 ++ more) start.Letter (letter_start h.0 h.3) (refl, run_longest is_word h.1 more h.4))
 longest_token e shape.Number y more h may free =
-    subst (λ (t : List ℕ). LeavesCut shape.Number (length more) (cut e (t ++ more))) (sym h.2) (along e shape.Number (length more) h.0 (h.1 ++ more) start.Digit (digit_start h.0 h.3) (refl, run_longest is_digit h.1 more h.4))
+    subst (λ (t : List ℕ). LeavesCut shape.Number (length more) (cut e (t ++ more))) (sym h.2) (along e shape.Number (length more) h.0 (h.1 ++ more) start.Digit (digit_start h.0 h.3) (refl, run_longest is_ascii_digit h.1 more h.4))
 longest_token e shape.LineComment y more h may free =
     subst (λ (t : List ℕ). LeavesCut shape.LineComment (length more) (cut e (t ++ more))) (sym h.1) (along e shape.LineComment (length more) 47 (47 ∷ (h.0 ++ more)) start.Slash refl (refl, run_longest (λ d. not (d == 10)) h.0 more h.2))
 longest_token e shape.BlockComment y more h may free =
@@ -190,11 +191,11 @@ slash_stands e (d ∷ cs) = slash_stands_at e d cs (d == 47) (d == 42) refl refl
 other_free : (c : ℕ) (cs : List ℕ) → (c == 47) ≡ false → BeginsComment (c ∷ cs) → ⊥
 other_free c cs h b = let s : c ≡ 47 = cc (b.2) in let t : (c == 47) ≡ true = ap (λ (n : ℕ). n == 47) s in absurd (cc (sym t ∙ h))
 
-found_by : (e : Option Inserts) (c : ℕ) (cs : List ℕ) (w l d q s : Bool) → is_white c ≡ w → is_letter c ≡ l → is_digit c ≡ d → (c == 39) ≡ q → (c == 47) ≡ s
+found_by : (e : Option Inserts) (c : ℕ) (cs : List ℕ) (w l d q s : Bool) → is_white c ≡ w → is_ascii_alphabetic c ≡ l → is_ascii_digit c ≡ d → (c == 39) ≡ q → (c == 47) ≡ s
     → FoundCut e (c ∷ cs) (cut_at e (if w then start.White else (if l then start.Letter else (if d then start.Digit else (if q then start.Quote else (if s then start.Slash else start.Other))))) c cs)
 found_by e c cs true l d q s hw hl hd hq hs = (c ∷ [], refl, ((c, refl, hw), refl, λ i b. cc))
 found_by e c cs false true d q s hw hl hd hq hs = let r = run_of is_word cs in run_stands e shape.Word c cs (past is_word cs) r.0 r.1 (c, r.0, refl, hl, r.2) refl (λ i. cc)
-found_by e c cs false false true q s hw hl hd hq hs = let r = run_of is_digit cs in run_stands e shape.Number c cs (past is_digit cs) r.0 r.1 (c, r.0, refl, hd, r.2) refl (λ i. cc)
+found_by e c cs false false true q s hw hl hd hq hs = let r = run_of is_ascii_digit cs in run_stands e shape.Number c cs (past is_ascii_digit cs) r.0 r.1 (c, r.0, refl, hd, r.2) refl (λ i. cc)
 found_by e c cs false false false true s hw hl hd hq hs =
     subst (λ (n : ℕ). FoundCut e (n ∷ cs) (cut_as shape.Literal (past_literal e false cs))) (sym (same_number c 39 hq)) (literal_stands e cs (past_literal e false cs) refl)
 found_by e c cs false false false false true hw hl hd hq hs = subst (λ (n : ℕ). FoundCut e (n ∷ cs) (slash_cut (n ∷ cs) cs)) (sym (same_number c 47 hs)) (slash_stands e cs)
@@ -203,7 +204,7 @@ found_by e c cs false false false false false hw hl hd hq hs = sign_cut_stands e
 found_cut : (e : Option Inserts) (text : List ℕ) → FoundCut e text (cut e text)
 unfolding cut
 found_cut e [] = tt
-found_cut e (c ∷ cs) = found_by e c cs (is_white c) (is_letter c) (is_digit c) (c == 39) (c == 47) refl refl refl refl refl
+found_cut e (c ∷ cs) = found_by e c cs (is_white c) (is_ascii_alphabetic c) (is_ascii_digit c) (c == 39) (c == 47) refl refl refl refl refl
 
 -- ---- insert characters and names of macros
 

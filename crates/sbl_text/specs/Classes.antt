@@ -1,5 +1,6 @@
 -- Classes of characters.
 use Rattle.std.specs.Prelude.{ℕ, Bool, false, ◌&&◌, ◌||◌, ◌==◌, nat_le, List, [], ◌∷◌}
+use Rattle.std.specs.Char.{is_ascii_alphabetic, is_ascii_digit}
 
 -- the characters that begin and end literals, comments and lines
 abbrev pub quote : ℕ
@@ -17,14 +18,9 @@ line_feed = 10
 abbrev pub is_white : ℕ → Bool
 is_white c = (nat_le 9 c && nat_le c 13) || (c == 32 || c == 0xFEFF)
 
-abbrev pub is_letter : ℕ → Bool
-is_letter c = (nat_le 65 c && nat_le c 90) || (nat_le 97 c && nat_le c 122)
-
-abbrev pub is_digit : ℕ → Bool
-is_digit c = nat_le 48 c && nat_le c 57
-
+-- a letter of ASCII, a digit or `_`
 abbrev pub is_word : ℕ → Bool
-is_word c = is_letter c || (is_digit c || c == 95)
+is_word c = is_ascii_alphabetic c || (is_ascii_digit c || c == 95)
 
 -- the text begins with this character
 abbrev pub begins_with : ℕ → List ℕ → Bool

@@ -1,13 +1,14 @@
 -- The pieces of a text: a piece is one token, one comment or one white space character.
 use Rattle.std.specs.Prelude.{◌≡◌, ℕ, ◌≤◌, Bool, true, false, not, ◌||◌, ◌==◌, if◌then◌else◌, List, [], ◌∷◌, ◌++◌, length, Option}
 use Rattle.std.specs.List.{list_all, list_any}
+use Rattle.std.specs.Char.{is_ascii_alphabetic, is_ascii_digit}
 use denote.Enum.Bare.{sameb}
 use Rattle.sbl_token.specs.declared.signs.Sign.{Sign}
 use Rattle.sbl_text.specs.contracts.pieces.Shape as shapes
 use Rattle.sbl_text.specs.declared.pieces.Shape.{Shape}
 use Rattle.sbl_text.specs.declared.pieces.Shape.TheVariants as shape
 use Rattle.sbl_text.specs.declared.escapes.Inserts.{Inserts}
-use Rattle.sbl_text.specs.Classes.{is_white, is_letter, is_digit, is_word, line_feed, quote, slash, star}
+use Rattle.sbl_text.specs.Classes.{is_white, is_word, line_feed, quote, slash, star}
 use Rattle.sbl_text.specs.declared.pieces.Expectation.{Expectation}
 use Rattle.sbl_text.specs.declared.pieces.Expectation.TheVariants as wanted
 use Rattle.sbl_token.specs.Signs.{sign_text}
@@ -29,8 +30,8 @@ Has e shape.Blank x = (c : ℕ) × (x ≡ c ∷ []) × (is_white c ≡ true)
 Has e shape.LineComment x = (inner : List ℕ) × (x ≡ slash ∷ slash ∷ inner) × (list_all (λ c. not (c == line_feed)) inner ≡ true)
 Has e shape.BlockComment x =
     (inner : List ℕ) × (x ≡ slash ∷ star ∷ (inner ++ star ∷ slash ∷ [])) × ((a b : List ℕ) → inner ≡ a ++ star ∷ slash ∷ b → ⊥)
-Has e shape.Word x = (c : ℕ) × (cs : List ℕ) × (x ≡ c ∷ cs) × (is_letter c ≡ true) × (list_all is_word cs ≡ true)
-Has e shape.Number x = (c : ℕ) × (cs : List ℕ) × (x ≡ c ∷ cs) × (is_digit c ≡ true) × (list_all is_digit cs ≡ true)
+Has e shape.Word x = (c : ℕ) × (cs : List ℕ) × (x ≡ c ∷ cs) × (is_ascii_alphabetic c ≡ true) × (list_all is_word cs ≡ true)
+Has e shape.Number x = (c : ℕ) × (cs : List ℕ) × (x ≡ c ∷ cs) × (is_ascii_digit c ≡ true) × (list_all is_ascii_digit cs ≡ true)
 Has e shape.Sign x = (s : Sign) × (x ≡ sign_text s)
 Has e shape.Literal x = (inner : List ℕ) × (x ≡ quote ∷ (inner ++ quote ∷ [])) × (is_inner e false inner ≡ true)
 Has e shape.Inserts x = (a : ℕ) × (b : ℕ) × (x ≡ a ∷ b ∷ []) × (a == quote ≡ false) × (is_white a ≡ false) × (is_white b ≡ false)

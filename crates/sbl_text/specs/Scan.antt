@@ -4,6 +4,7 @@ use Rattle.std.specs.Prelude.{◌≡◌, ◌++◌, ℕ, Bool, true, false, not, 
 use Rattle.std.specs.Prelude.{◌∷◌, drop, length, ◌<◌, Option, Some, None, option_map, MatchOption}
 use Rattle.std.specs.Borrow.{Bor}
 use Rattle.std.specs.Str.{chars}
+use Rattle.std.specs.Char.{is_ascii_alphabetic, is_ascii_digit}
 use Rattle.sbl_text.specs.declared.pieces.Shape.{Shape}
 use Rattle.sbl_text.specs.declared.pieces.Shape.TheVariants as shape
 use Rattle.sbl_text.specs.declared.pieces.Expectation.{Expectation}
@@ -11,7 +12,7 @@ use Rattle.sbl_text.specs.declared.pieces.Expectation.TheVariants as wanted
 use Rattle.sbl_text.specs.declared.pieces.Start.{Start}
 use Rattle.sbl_text.specs.declared.pieces.Start.TheVariants as start
 use Rattle.sbl_text.specs.declared.escapes.Inserts.{Inserts}
-use Rattle.sbl_text.specs.Classes.{is_white, is_letter, is_digit, is_word, line_feed, quote, slash, star, begins_with}
+use Rattle.sbl_text.specs.Classes.{is_white, is_word, line_feed, quote, slash, star, begins_with}
 use Rattle.sbl_text.specs.Skip.{past}
 use Rattle.sbl_token.specs.SignCuts.{sign_prefix}
 use Rattle.sbl_text.specs.Escapes.{opens, closes}
@@ -19,7 +20,7 @@ use Rattle.sbl_text.specs.Pieces.{Setting, IsPiece, NoPiece, is_gap}
 
 abbrev pub start_of : ℕ → Start
 start_of c =
-    if is_white c then start.White else (if is_letter c then start.Letter else (if is_digit c then start.Digit
+    if is_white c then start.White else (if is_ascii_alphabetic c then start.Letter else (if is_ascii_digit c then start.Digit
     else (if c == quote then start.Quote else (if c == slash then start.Slash else start.Other))))
 
 -- the text after the quote that ends the literal
@@ -59,7 +60,7 @@ slash_cut text (c ∷ cs) =
 abbrev pub cut_at : Option Inserts → Start → ℕ → List ℕ → FirstPiece
 cut_at e start.White c cs = Some (shape.Blank, cs)
 cut_at e start.Letter c cs = Some (shape.Word, past is_word cs)
-cut_at e start.Digit c cs = Some (shape.Number, past is_digit cs)
+cut_at e start.Digit c cs = Some (shape.Number, past is_ascii_digit cs)
 cut_at e start.Quote c cs = cut_as shape.Literal (past_literal e false cs)
 cut_at e start.Slash c cs = slash_cut (c ∷ cs) cs
 cut_at e start.Other c cs = sign_cut (c ∷ cs)

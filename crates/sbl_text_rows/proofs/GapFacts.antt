@@ -1,6 +1,7 @@
 -- White space and comments, one after another.
 use Rattle.std.proofs.Common.{◌≡◌, ◌∙◌, ℕ, ◌+◌, Bool, true, false, List, [], ◌∷◌, ◌++◌, length, Option, Some, None, refl, sym, ap, subst, arith, length-append, append_assoc}
 use Rattle.std.specs.Prelude.{not, ◌==◌, if◌then◌else◌, option_map}
+use Rattle.std.specs.Char.{is_ascii_alphabetic, is_ascii_digit}
 use Rattle.std.proofs.lemmas.List.{append_cancel_right, append-nil}
 use Rattle.sbl_token.specs.declared.signs.Sign.{Sign}
 use Rattle.sbl_text.specs.declared.pieces.Shape.{Shape}
@@ -9,7 +10,7 @@ use Rattle.sbl_text.specs.declared.pieces.Expectation.{Expectation}
 use Rattle.sbl_text.specs.declared.pieces.Expectation.TheVariants as wanted
 use Rattle.sbl_text.specs.declared.pieces.Start.TheVariants as start
 use Rattle.sbl_text.specs.declared.escapes.Inserts.{Inserts}
-use Rattle.sbl_text.specs.Classes.{is_white, is_letter, is_digit}
+use Rattle.sbl_text.specs.Classes.{is_white}
 use Rattle.sbl_text.specs.Literals.{byte_length}
 use Rattle.sbl_text.specs.Pieces.{AreGaps, Gap, IsPiece, NoPiece, is_gap, may_come}
 use Rattle.sbl_text.specs.inside.PieceParts.{setting}
@@ -55,13 +56,13 @@ slash_gap : (c : ℕ) (cs : List ℕ) → option_map (λ r. (true, r)) (past_com
 slash_gap c [] = sign_is_no_gap _
 slash_gap c (d ∷ cs) = after_slash c d cs (d == 47) (d == 42)
 
-by_start : (e : Option Inserts) (c : ℕ) (cs : List ℕ) (w l d q s : Bool) → is_letter c ≡ l → is_digit c ≡ d → (c == 39) ≡ q → (c == 47) ≡ s
+by_start : (e : Option Inserts) (c : ℕ) (cs : List ℕ) (w l d q s : Bool) → is_ascii_alphabetic c ≡ l → is_ascii_digit c ≡ d → (c == 39) ≡ q → (c == 47) ≡ s
     → (if w then Some (false, cs) else (if s then option_map (λ r. (true, r)) (past_comment cs) else None))
     ≡ gap_of (cut_at e (if w then start.White else (if l then start.Letter else (if d then start.Digit else (if q then start.Quote else (if s then start.Slash else start.Other))))) c cs)
 by_start e c cs true l d q s hl hd hq hs = refl
-by_start e c cs false true d q true hl hd hq hs = absurd (cc (sym hs ∙ no_eq is_letter c 47 hl refl))
+by_start e c cs false true d q true hl hd hq hs = absurd (cc (sym hs ∙ no_eq is_ascii_alphabetic c 47 hl refl))
 by_start e c cs false true d q false hl hd hq hs = refl
-by_start e c cs false false true q true hl hd hq hs = absurd (cc (sym hs ∙ no_eq is_digit c 47 hd refl))
+by_start e c cs false false true q true hl hd hq hs = absurd (cc (sym hs ∙ no_eq is_ascii_digit c 47 hd refl))
 by_start e c cs false false true q false hl hd hq hs = refl
 by_start e c cs false false false true true hl hd hq hs = absurd (cc (sym hs ∙ no_eq (λ n. n == 39) c 47 hq refl))
 by_start e c cs false false false true false hl hd hq hs = literal_is_no_gap (past_literal e false cs)
@@ -71,7 +72,7 @@ by_start e c cs false false false false false hl hd hq hs = sign_is_no_gap _
 cut_gap_is : (e : Option Inserts) (text : List ℕ) → cut_gap text ≡ gap_of (cut e text)
 unfolding cut
 cut_gap_is e [] = refl
-cut_gap_is e (c ∷ cs) = by_start e c cs (is_white c) (is_letter c) (is_digit c) (c == 39) (c == 47) refl refl refl refl
+cut_gap_is e (c ∷ cs) = by_start e c cs (is_white c) (is_ascii_alphabetic c) (is_ascii_digit c) (c == 39) (c == 47) refl refl refl refl
 
 -- ---- it is the piece there
 
