@@ -35,21 +35,13 @@ pub data ScriptEdit : Type 0 where
 
 -- ---- the definition that changes
 
--- the item defines the routine with this name
-abbrev pub is_routine_named : List ℕ → Plain → Bool
-is_routine_named n (routine m c os) = bytes_eq n m
-is_routine_named n _ = false
-
--- the item defines the grouping with this name
-abbrev pub is_grouping_named : List ℕ → Plain → Bool
-is_grouping_named n (grouping m a ts) = bytes_eq n m
-is_grouping_named n _ = false
-
--- whether an edit may change this item; it changes the first such item, in either mode
+-- whether an edit may change this item: it defines the routine or the grouping that the edit names; the edit changes the first such
+-- item, in either mode
 abbrev pub changes : ScriptEdit → Plain → Bool
-changes (body n) = is_routine_named n
-changes (among n k) = is_routine_named n
-changes (terms n) = is_grouping_named n
+changes (body n) (routine m c os) = bytes_eq n m
+changes (among n k) (routine m c os) = bytes_eq n m
+changes (terms n) (grouping m a ts) = bytes_eq n m
+changes e x = false
 
 -- the items in text order, without their modes
 abbrev pub plains_of : List Item → List Plain
@@ -167,3 +159,13 @@ IsEditFault s e text (edits.Script f) =
     × IsFaultIn w (state_before (changes e) s.items) around s.external text f
 IsEditFault s e text edits.OutOfMemory = ⊥
 IsEditFault s e text f = text_for s.items e ≡ Err f
+
+-- ---- names for parts of these definitions, which only the code and proofs use
+
+-- the item defines the routine with this name
+abbrev pub is_routine_named : List ℕ → Plain → Bool
+is_routine_named n = changes (body n)
+
+-- the item defines the grouping with this name
+abbrev pub is_grouping_named : List ℕ → Plain → Bool
+is_grouping_named n = changes (terms n)
