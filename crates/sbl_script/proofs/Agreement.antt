@@ -27,7 +27,7 @@ use Rattle.sbl_parser.proofs.OneTree.{trees_are_one}
 use Rattle.sbl_script.specs.declared.edit_fault.EditFault.{EditFault}
 use Rattle.sbl_script.specs.declared.edit_fault.EditFault.TheVariants as edits
 use Rattle.sbl_script.specs.Reading.{HasTokens, IsFaultIn}
-use Rattle.sbl_script.specs.Edits.{ScriptEdit, body, among, terms, changes, is_routine_named, is_grouping_named, escapes_after, first_of, keeps_count, items_with, plains_of, plains_with, state_before, text_for, text_in, IsAmongReplaced, IsEdited, IsEditFault, IsMade, IsSubstituted}
+use Rattle.sbl_script.specs.Edits.{ScriptEdit, body, among, terms, changes, is_routine_named, is_grouping_named, escapes_after, first_of, keeps_count, items_with, plains_of, plains_with, state_before, text_for, text_in, IsChanged, IsEdited, IsEditFault, IsMade, IsSubstituted}
 use Rattle.sbl_script.specs.Homes.{Home, Walk, first_in, first_passing, home, home_in, home_of_among, home_of_body, home_of_held, home_of_terms, plain_if, state_reached, walk_in, walk_to, IsEditedAt, IsEditFaultAt, IsFaultAt, IsSubstitutedAt}
 use Rattle.sbl_script.proofs.AmongEnds.{after_same, inside}
 use Rattle.sbl_script.proofs.AmongDepths.{N, both_n, same_test, text_same, words_with}
@@ -185,31 +185,34 @@ plain_one x y e = go (trees_are_one texts.script (plain x ∷ []) (plain y ∷ [
 parts : (a : Starter × Groups) (d : ℕ) (prefix following ps : Ps) → ps ≡ prefix ++ places_in (texts.among d) a ++ following → ps ≡ prefix ++ (lex.word words.Among, d) ∷ inside a d following
 parts a d prefix following ps e = e ∙ append_assoc prefix (places_in (texts.among d) a) following ∙ ap (λ (l : Ps). prefix ++ l) (sym (tree_before (among_ a.0 a.1) d [] following))
 
+-- the definition x has the among a in place of the one with number k of the definition old, at depth d
+abbrev IsAmongReplaced : ℕ → ℕ → Starter × Groups → Plain → Plain → Type 0
+IsAmongReplaced k d a old x = IsChanged (among [] k) (texts.among d) a old x
+
 -- one definition has the among in that place
 replaced_one : (k d : ℕ) (a : Starter × Groups) (old x y : Plain) → IsAmongReplaced k d a old x → IsAmongReplaced k d a old y → x ≡ y
 replaced_one k d a old x y g h =
-    let one = parts g.replaced d g.prefix g.following (placed_plain old []) g.was in
-    let two = parts h.replaced d h.prefix h.following (placed_plain old []) h.was in
-    let count : N g.prefix ≡ N h.prefix = omega (arith, g.number, h.number) in
-    let c = same_cut g.prefix h.prefix (inside g.replaced d g.following) (inside h.replaced d h.following) (lex.word words.Among, d) (lex.word words.Among, d) refl refl (sym one ∙ two) count in
-    let following = after_same d g.replaced h.replaced g.following h.following c.1 in
+    let one = parts g.1 d g.0 g.2 (placed_plain old []) g.4 in
+    let two = parts h.1 d h.0 h.2 (placed_plain old []) h.4 in
+    let count : N g.0 ≡ N h.0 = omega (arith, g.3, h.3) in
+    let c = same_cut g.0 h.0 (inside g.1 d g.2) (inside h.1 d h.2) (lex.word words.Among, d) (lex.word words.Among, d) refl refl (sym one ∙ two) count in
+    let following = after_same d g.1 h.1 g.2 h.2 c.1 in
     let new = places_in (texts.among d) a in
-    plain_one x y (ap tokens (g.is ∙ ap (λ (f : Ps). f ++ new ++ g.following) c.0 ∙ ap (λ (l : Ps). h.prefix ++ new ++ l) following ∙ sym h.is))
+    plain_one x y (ap tokens (g.5 ∙ ap (λ (f : Ps). f ++ new ++ g.2) c.0 ∙ ap (λ (l : Ps). h.0 ++ new ++ l) following ∙ sym h.5))
 
 -- the definition with the among put in its place has it there
 replaced_there : (n : List ℕ) (b : RowView) (k : ℕ) (a : Starter × Groups) (h : AmongContents) → nth_held k (amongs_of_body b) ≡ Some h
     → IsAmongReplaced k h.0 a (routine n b.0 b.1) (routine n (put_in_body b k a).0 (put_in_body b k a).1)
 replaced_there n b k a h e =
     let two = body_one b k a h e in
-    let prefix : Ps = (lex.word words.Define, 0) ∷ (lex.name n, 0) ∷ (lex.word words.As, 0) ∷ two.prefix in
-    record {
-      prefix = prefix;
-      replaced = (h.1, h.2);
-      following = two.following;
-      number = two.number ∙ ap (λ (z : ℕ). z + 1) (count_same two.prefix);
-      was = ap (λ (l : Ps). (lex.word words.Define, 0) ∷ (lex.name n, 0) ∷ (lex.word words.As, 0) ∷ l) (two.was ∙ ap (λ (l : Ps). two.prefix ++ l) (tree_before (among_ h.1 h.2) h.0 [] two.following)) ∙ sym (append_assoc prefix (places_in (texts.among h.0) (h.1, h.2)) two.following);
-      is = ap (λ (l : Ps). (lex.word words.Define, 0) ∷ (lex.name n, 0) ∷ (lex.word words.As, 0) ∷ l) (two.is ∙ ap (λ (l : Ps). two.prefix ++ l) (tree_before (among_ a.0 a.1) h.0 [] two.following)) ∙ sym (append_assoc prefix (places_in (texts.among h.0) a) two.following);
-    }
+    let prefix : Ps = (lex.word words.Define, 0) ∷ (lex.name n, 0) ∷ (lex.word words.As, 0) ∷ two.prefix in (
+      prefix,
+      (h.1, h.2),
+      two.following,
+      two.number ∙ ap (λ (z : ℕ). z + 1) (count_same two.prefix),
+      ap (λ (l : Ps). (lex.word words.Define, 0) ∷ (lex.name n, 0) ∷ (lex.word words.As, 0) ∷ l) (two.was ∙ ap (λ (l : Ps). two.prefix ++ l) (tree_before (among_ h.1 h.2) h.0 [] two.following)) ∙ sym (append_assoc prefix (places_in (texts.among h.0) (h.1, h.2)) two.following),
+      ap (λ (l : Ps). (lex.word words.Define, 0) ∷ (lex.name n, 0) ∷ (lex.word words.As, 0) ∷ l) (two.is ∙ ap (λ (l : Ps). two.prefix ++ l) (tree_before (among_ a.0 a.1) h.0 [] two.following)) ∙ sym (append_assoc prefix (places_in (texts.among h.0) a) two.following),
+    )
 
 -- ---- how many words `among` items have with another definition
 

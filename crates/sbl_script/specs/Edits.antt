@@ -101,20 +101,14 @@ text_in _ e = Err edits.NoRoutine
 abbrev pub text_for : List Item → ScriptEdit → Result Text EditFault
 text_for items e = text_in (first_of (changes e) items) e
 
--- The definition `new` has the among `a` in place of the among of `old` with number k, which is at depth d: there are
--- k - 1 words `among` before it. All other tokens stay.
-pub record IsAmongReplaced (k d : ℕ) (a : Starter × Groups) (old new : Plain) : Type 0 where
-  pub prefix : List AtDepth
-  pub replaced : Starter × Groups
-  pub following : List AtDepth
-  pub number : k ≡ length (among_depths prefix) + 1
-  pub was : placed_plain old [] ≡ prefix ++ places_in (texts.among d) replaced ++ following
-  pub is : placed_plain new [] ≡ prefix ++ places_in (texts.among d) a ++ following
-
--- with the tree x of its text, an edit makes the definition `new` of `old`
+-- With the tree x of its text, an edit makes the definition `new` of `old`. An among has the tree x in place of its old one: it is at
+-- depth d, there are k - 1 words `among` before it, and all other tokens stay.
 abbrev pub IsChanged : ScriptEdit → (w : Text) → TreeOf w → Plain → Plain → Type 0
 IsChanged (body n) texts.body x old new = new ≡ routine n x.0 x.1
-IsChanged (among n k) (texts.among d) x old new = IsAmongReplaced k d x old new
+IsChanged (among n k) (texts.among d) x old new =
+    (prefix : List AtDepth) × (replaced : Starter × Groups) × (following : List AtDepth) × (k ≡ length (among_depths prefix) + 1)
+    × (placed_plain old [] ≡ prefix ++ places_in (texts.among d) replaced ++ following)
+    × (placed_plain new [] ≡ prefix ++ places_in (texts.among d) x ++ following)
 IsChanged (terms n) texts.terms x old new = new ≡ grouping n x.0 x.1
 IsChanged e w x old new = ⊥
 
