@@ -103,39 +103,31 @@ follow_to w b (x ∷ more) h = λ prefix.
     h (subst (λ (z : Ts). reading.IsPrefix w z) (ap T (sym (map-append lexeme_as b (x ∷ []))) ∙ terminals_back (b ++ x ∷ [])) (prefix_back w (L b ++ lexeme_as x ∷ []) prefix))
 
 stops_to : (w : Text) (b r : Ts) → reading.StopsAt w b r → StopsAt w (L b) (L r)
-stops_to w b r h = record { prefix = prefix_to w b h.prefix; shallow = none_to w b h.shallow; stops = follow_to w b r h.stops }
+stops_to w b r h = (prefix_to w b h.prefix, none_to w b h.shallow, follow_to w b r h.stops)
 
 pub syntax_to : (w : Text) (all r : Ts) → reading.IsSyntaxAt w all r → IsSyntaxAt w (L all) (L r)
-syntax_to w all r h = record {
-  before = L h.before;
-  parts = ap L h.parts ∙ map-append lexeme_as h.before r;
-  stops = stops_to w h.before r h.stops;
-  other = λ prefix n e. ap L (h.other (T prefix) n (sym (terminals_back h.before) ∙ ap T e ∙ map-append terminal_of prefix (l.sign signs.Dollar ∷ l.name n ∷ [])));
-}
+syntax_to w all r h = (
+  L h.before,
+  ap L h.parts ∙ map-append lexeme_as h.before r,
+  stops_to w h.before r h.stops,
+  λ prefix n e. ap L (h.other (T prefix) n (sym (terminals_back h.before) ∙ ap T e ∙ map-append terminal_of prefix (l.sign signs.Dollar ∷ l.name n ∷ []))),
+)
 
 pub too_deep_to : (w : Text) (all r : Ts) → reading.IsTooDeepAt w all r → IsTooDeepAt w (L all) (L r)
-too_deep_to w all r h = record {
-  before = L h.before;
-  first = lexeme_as h.first;
-  more = L h.more;
-  is = ap L h.is;
-  parts = ap L h.parts ∙ map-append lexeme_as h.before r;
-  shallow = none_to w h.before h.shallow;
-  deep = deep_to w h.before h.first h.deep;
-}
+too_deep_to w all r h =
+    (L h.before, lexeme_as h.first, L h.more, ap L h.is, ap L h.parts ∙ map-append lexeme_as h.before r, none_to w h.before h.shallow, deep_to w h.before h.first h.deep)
 
 pub out_of_profile_to : (w : Text) (all r : Ts) → reading.IsOutOfProfileAt w all r → IsOutOfProfileAt w (L all) (L r)
 out_of_profile_to w all r h =
-    let subject : Ts = t.dollar ∷ t.name h.subject ∷ [] in
-    record {
-      before = L h.before;
-      subject = h.subject;
-      bad = lexeme_as h.bad;
-      more = L h.more;
-      is = ap L h.is;
-      parts = ap L h.parts ∙ map-append lexeme_as h.before r;
-      stops = subst (λ (z : Ls). StopsAt w z (L (h.bad ∷ h.more))) (map-append lexeme_as h.before subject) (stops_to w (h.before ++ subject) (h.bad ∷ h.more) h.stops);
-    }
+    let subject : Ts = t.dollar ∷ t.name h.subject ∷ [] in (
+      L h.before,
+      h.subject,
+      lexeme_as h.bad,
+      L h.more,
+      ap L h.is,
+      ap L h.parts ∙ map-append lexeme_as h.before r,
+      subst (λ (z : Ls). StopsAt w z (L (h.bad ∷ h.more))) (map-append lexeme_as h.before subject) (stops_to w (h.before ++ subject) (h.bad ∷ h.more) h.stops),
+    )
 
 -- ---- the tokens of a text
 

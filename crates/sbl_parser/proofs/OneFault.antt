@@ -69,14 +69,14 @@ no_prefix k p (y ∷ r) x c h e prefix = h (subst (λ (z : Lexeme). IsPrefix k (
 
 -- nothing stops before a prefix ends
 stops_before : (k : Text) (p r q s : Ts) → StopsAt k p r → IsPrefix k q → IsBefore p r q s → ⊥
-stops_before k p r q s h prefix b = no_prefix k p r b.0 (b.1 ++ s) h.stops b.3 (prefix_of_prefix k p b.0 b.1 (subst (λ (z : Ts). IsPrefix k z) b.2 prefix))
+stops_before k p r q s h prefix b = no_prefix k p r b.0 (b.1 ++ s) h.2 b.3 (prefix_of_prefix k p b.0 b.1 (subst (λ (z : Ts). IsPrefix k z) b.2 prefix))
 
 both_stop : (k : Text) (p r q s : Ts) → p ++ r ≡ q ++ s → StopsAt k p r → StopsAt k q s → (p ≡ q) × (r ≡ s)
 both_stop k p r q s e h g = go (cuts p r q s e) where
   go : Cuts p r q s → (p ≡ q) × (r ≡ s)
   go (inl same) = same
-  go (inr (inl b)) = absurd (stops_before k p r q s h g.prefix b)
-  go (inr (inr b)) = absurd (stops_before k q s p r g h.prefix b)
+  go (inr (inl b)) = absurd (stops_before k p r q s h g.0 b)
+  go (inr (inr b)) = absurd (stops_before k q s p r g h.0 b)
 
 -- none is too deep before
 not_before : (k : Text) (p r q : Ts) (x : Lexeme) (more : Ts) → HasNoneTooDeep k p → IsTooDeep k q x → IsBefore q (x ∷ more) p r → ⊥
@@ -89,11 +89,11 @@ stops_at_deep k p r q x more e h deep = go (cuts p r q (x ∷ more) e) where
   prefix = deep_prefix k q x deep
 
   go : Cuts p r q (x ∷ more) → ⊥
-  go (inl same) = no_prefix k p r x more h.stops same.1 (subst (λ (z : Ts). IsPrefix k (z ++ x ∷ [])) (sym same.0) prefix)
+  go (inl same) = no_prefix k p r x more h.2 same.1 (subst (λ (z : Ts). IsPrefix k (z ++ x ∷ [])) (sym same.0) prefix)
   go (inr (inl b)) =
       let longer : q ++ x ∷ [] ≡ p ++ b.0 ∷ (b.1 ++ x ∷ []) = ap (λ (z : Ts). z ++ x ∷ []) b.2 ∙ append_assoc p (b.0 ∷ b.1) (x ∷ []) in
-      no_prefix k p r b.0 (b.1 ++ x ∷ more) h.stops b.3 (prefix_of_prefix k p b.0 (b.1 ++ x ∷ []) (subst (λ (z : Ts). IsPrefix k z) longer prefix))
-  go (inr (inr b)) = not_before k p r q x more h.shallow deep b
+      no_prefix k p r b.0 (b.1 ++ x ∷ more) h.2 b.3 (prefix_of_prefix k p b.0 (b.1 ++ x ∷ []) (subst (λ (z : Ts). IsPrefix k z) longer prefix))
+  go (inr (inr b)) = not_before k p r q x more h.1 deep b
 
 both_deep : (k : Text) (p : Ts) (x : Lexeme) (m q : Ts) (y : Lexeme) (n : Ts) → p ++ x ∷ m ≡ q ++ y ∷ n → HasNoneTooDeep k p → IsTooDeep k p x → HasNoneTooDeep k q → IsTooDeep k q y → x ∷ m ≡ y ∷ n
 both_deep k p x m q y n e hp dp hq dq = go (cuts p (x ∷ m) q (y ∷ n) e) where
@@ -108,35 +108,35 @@ both_deep k p x m q y n e hp dp hq dq = go (cuts p (x ∷ m) q (y ∷ n) e) wher
 abbrev subject : List ℕ → Ts
 subject n = l.sign signs.Dollar ∷ l.name n ∷ []
 
-profile_parts : (k : Text) (all r : Ts) (h : IsOutOfProfileAt k all r) → all ≡ (h.before ++ subject h.subject) ++ h.bad ∷ h.more
-profile_parts k all r h = h.parts ∙ ap (λ (z : Ts). h.before ++ z) h.is ∙ sym (append_assoc h.before (subject h.subject) (h.bad ∷ h.more))
+profile_parts : (k : Text) (all r : Ts) (h : IsOutOfProfileAt k all r) → all ≡ (h.0 ++ subject h.1) ++ h.2 ∷ h.3
+profile_parts k all r h = h.5 ∙ ap (λ (z : Ts). h.0 ++ z) h.4 ∙ sym (append_assoc h.0 (subject h.1) (h.2 ∷ h.3))
 
-deep_parts : (k : Text) (all r : Ts) (h : IsTooDeepAt k all r) → all ≡ h.before ++ h.first ∷ h.more
-deep_parts k all r h = h.parts ∙ ap (λ (z : Ts). h.before ++ z) h.is
+deep_parts : (k : Text) (all r : Ts) (h : IsTooDeepAt k all r) → all ≡ h.0 ++ h.1 ∷ h.2
+deep_parts k all r h = h.4 ∙ ap (λ (z : Ts). h.0 ++ z) h.3
 
 two_syntax : (k : Text) (all r s : Ts) → IsSyntaxAt k all r → IsSyntaxAt k all s → r ≡ s
-two_syntax k all r s h g = (both_stop k h.before r g.before s (sym h.parts ∙ g.parts) h.stops g.stops).1
+two_syntax k all r s h g = (both_stop k h.0 r g.0 s (sym h.1 ∙ g.1) h.2 g.2).1
 
 syntax_deep : (k : Text) (all r s : Ts) → IsSyntaxAt k all r → IsTooDeepAt k all s → ⊥
-syntax_deep k all r s h g = stops_at_deep k h.before r g.before g.first g.more (sym h.parts ∙ deep_parts k all s g) h.stops g.deep
+syntax_deep k all r s h g = stops_at_deep k h.0 r g.0 g.1 g.2 (sym h.1 ∙ deep_parts k all s g) h.2 g.6
 
 syntax_profile : (k : Text) (all r s : Ts) → IsSyntaxAt k all r → IsOutOfProfileAt k all s → ⊥
 syntax_profile k all r s h g =
-    let same = both_stop k h.before r (g.before ++ subject g.subject) (g.bad ∷ g.more) (sym h.parts ∙ profile_parts k all s g) h.stops g.stops in
-    let none : r ≡ [] = h.other g.before g.subject same.0 in
-    let some : r ≡ g.bad ∷ g.more = same.1 in absurd (cc (sym none ∙ some))
+    let same = both_stop k h.0 r (g.0 ++ subject g.1) (g.2 ∷ g.3) (sym h.1 ∙ profile_parts k all s g) h.2 g.6 in
+    let none : r ≡ [] = h.3 g.0 g.1 same.0 in
+    let some : r ≡ g.2 ∷ g.3 = same.1 in absurd (cc (sym none ∙ some))
 
 two_deep : (k : Text) (all r s : Ts) → IsTooDeepAt k all r → IsTooDeepAt k all s → r ≡ s
-two_deep k all r s h g = h.is ∙ both_deep k h.before h.first h.more g.before g.first g.more (sym (deep_parts k all r h) ∙ deep_parts k all s g) h.shallow h.deep g.shallow g.deep ∙ sym g.is
+two_deep k all r s h g = h.3 ∙ both_deep k h.0 h.1 h.2 g.0 g.1 g.2 (sym (deep_parts k all r h) ∙ deep_parts k all s g) h.5 h.6 g.5 g.6 ∙ sym g.3
 
 profile_deep : (k : Text) (all r s : Ts) → IsOutOfProfileAt k all r → IsTooDeepAt k all s → ⊥
 profile_deep k all r s h g =
-    stops_at_deep k (h.before ++ subject h.subject) (h.bad ∷ h.more) g.before g.first g.more (sym (profile_parts k all r h) ∙ deep_parts k all s g) h.stops g.deep
+    stops_at_deep k (h.0 ++ subject h.1) (h.2 ∷ h.3) g.0 g.1 g.2 (sym (profile_parts k all r h) ∙ deep_parts k all s g) h.6 g.6
 
 two_profile : (k : Text) (all r s : Ts) → IsOutOfProfileAt k all r → IsOutOfProfileAt k all s → r ≡ s
 two_profile k all r s h g =
-    let same = both_stop k (h.before ++ subject h.subject) (h.bad ∷ h.more) (g.before ++ subject g.subject) (g.bad ∷ g.more) (sym (profile_parts k all r h) ∙ profile_parts k all s g) h.stops g.stops in
-    h.is ∙ same_ends h.before g.before (l.name h.subject) (l.name g.subject) (h.bad ∷ h.more) (g.bad ∷ g.more) same.0 same.1 ∙ sym g.is where
+    let same = both_stop k (h.0 ++ subject h.1) (h.2 ∷ h.3) (g.0 ++ subject g.1) (g.2 ∷ g.3) (sym (profile_parts k all r h) ∙ profile_parts k all s g) h.6 g.6 in
+    h.4 ∙ same_ends h.0 g.0 (l.name h.1) (l.name g.1) (h.2 ∷ h.3) (g.2 ∷ g.3) same.0 same.1 ∙ sym g.4 where
       ends : (p q : Ts) (a b c d : Lexeme) → p ++ a ∷ b ∷ [] ≡ q ++ c ∷ d ∷ [] → b ≡ d
       ends [] [] a b c d e = cc
       ends [] (y ∷ q) a b c d e = absurd (omega (arith, ap length e, length-append q (c ∷ d ∷ [])))
@@ -160,7 +160,7 @@ fault_is_one k all r s out_of_profile out_of_profile h g = (refl, two_profile k 
 -- ---- a tree has none
 
 no_stop : (k : Text) (p r : Ts) (tree : TreeOf k) → tokens_of k tree ≡ p ++ r → StopsAt k p r → ⊥
-no_stop k p r tree e h = go r e h.stops where
+no_stop k p r tree e h = go r e h.2 where
   go : (r : Ts) → tokens_of k tree ≡ p ++ r → CannotFollow k p r → ⊥
   go [] e stops = stops tree (e ∙ append-nil p)
   go (x ∷ more) e stops = stops (tree, more, e ∙ sym (append_assoc p (x ∷ []) more))
@@ -169,6 +169,6 @@ no_deep : (k : Text) (p : Ts) (x : Lexeme) (more : Ts) (tree : TreeOf k) → IsR
 no_deep k p x more tree h deep = none_deep k p x more tree h deep
 
 pub tree_or_fault : (k : Text) (all rest : Ts) (tree : TreeOf k) (w : Wrong) → IsReadAs k all tree → IsWrongAt k w all rest → ⊥
-tree_or_fault k all rest tree syntax h g = no_stop k g.before rest tree (h.0 ∙ g.parts) g.stops
-tree_or_fault k all rest tree too_deep h g = no_deep k g.before g.first g.more tree (subst (λ (z : Ts). IsReadAs k z tree) (deep_parts k all rest g) h) g.deep
-tree_or_fault k all rest tree out_of_profile h g = no_stop k (g.before ++ subject g.subject) (g.bad ∷ g.more) tree (h.0 ∙ profile_parts k all rest g) g.stops
+tree_or_fault k all rest tree syntax h g = no_stop k g.0 rest tree (h.0 ∙ g.1) g.2
+tree_or_fault k all rest tree too_deep h g = no_deep k g.0 g.1 g.2 tree (subst (λ (z : Ts). IsReadAs k z tree) (deep_parts k all rest g) h) g.6
+tree_or_fault k all rest tree out_of_profile h g = no_stop k (g.0 ++ subject g.1) (g.2 ∷ g.3) tree (h.0 ∙ profile_parts k all rest g) g.6

@@ -28,33 +28,24 @@ CannotFollow t before [] = (tree : TreeOf t) → tokens_of t tree ≡ before →
 CannotFollow t before (x ∷ more) = IsPrefix t (before ++ x ∷ []) → ⊥
 
 -- the tokens before are a prefix of a tree and not too deep, and the rest cannot follow
-pub record StopsAt (t : Text) (before rest : List Lexeme) : Type 0 where
-  pub prefix : IsPrefix t before
-  pub shallow : HasNoneTooDeep t before
-  pub stops : CannotFollow t before rest
+abbrev pub StopsAt : Text → List Lexeme → List Lexeme → Type 0
+StopsAt t before rest = IsPrefix t before × HasNoneTooDeep t before × CannotFollow t before rest
 
 -- after `$` and a name the tokens end: if there were more, an operator would be missing
-pub record IsSyntaxAt (t : Text) (all rest : List Lexeme) : Type 0 where
-  pub before : List Lexeme
-  pub parts : all ≡ before ++ rest
-  pub stops : StopsAt t before rest
-  pub other : (prefix : List Lexeme) (n : List ℕ) → before ≡ prefix ++ sign signs.Dollar ∷ name n ∷ [] → rest ≡ []
+abbrev pub IsSyntaxAt : Text → List Lexeme → List Lexeme → Type 0
+IsSyntaxAt t all rest =
+    (before : List Lexeme) × (all ≡ before ++ rest) × StopsAt t before rest
+    × ((prefix : List Lexeme) (n : List ℕ) → before ≡ prefix ++ sign signs.Dollar ∷ name n ∷ [] → rest ≡ [])
 
-pub record IsTooDeepAt (t : Text) (all rest : List Lexeme) : Type 0 where
-  pub before : List Lexeme
-  pub first : Lexeme
-  pub more : List Lexeme
-  pub is : rest ≡ first ∷ more
-  pub parts : all ≡ before ++ rest
-  pub shallow : HasNoneTooDeep t before
-  pub deep : IsTooDeep t before first
+-- the first token of the rest is too deep, and none before it
+abbrev pub IsTooDeepAt : Text → List Lexeme → List Lexeme → Type 0
+IsTooDeepAt t all rest =
+    (before : List Lexeme) × (first : Lexeme) × (more : List Lexeme) × (rest ≡ first ∷ more) × (all ≡ before ++ rest)
+    × HasNoneTooDeep t before × IsTooDeep t before first
 
 -- the rest begins with the `$` and the name before the token that is not an operator
-pub record IsOutOfProfileAt (t : Text) (all rest : List Lexeme) : Type 0 where
-  pub before : List Lexeme
-  pub subject : List ℕ
-  pub bad : Lexeme
-  pub more : List Lexeme
-  pub is : rest ≡ sign signs.Dollar ∷ name subject ∷ bad ∷ more
-  pub parts : all ≡ before ++ rest
-  pub stops : StopsAt t (before ++ sign signs.Dollar ∷ name subject ∷ []) (bad ∷ more)
+abbrev pub IsOutOfProfileAt : Text → List Lexeme → List Lexeme → Type 0
+IsOutOfProfileAt t all rest =
+    (before : List Lexeme) × (subject : List ℕ) × (bad : Lexeme) × (more : List Lexeme)
+    × (rest ≡ sign signs.Dollar ∷ name subject ∷ bad ∷ more) × (all ≡ before ++ rest)
+    × StopsAt t (before ++ sign signs.Dollar ∷ name subject ∷ []) (bad ∷ more)
