@@ -74,7 +74,7 @@ unread_told s h text ts f tokens (inr u) = inr (inr (inl (ts, tokens, u)))
 pub check_told : (s : Source) (h : Home) (text : List ℕ) (ts : List PlacedToken) (x : TreeOf h.text) (f : ScriptFault) → HasTokens h.state text ts → first_left_out ts ≡ None → IsReadAs h.text (lexemes ts) x
     → (f ≡ fault.OutOfMemory) ⊎ (fault_of (h.around x) s.external ≡ Some f) → (f ≡ fault.OutOfMemory) ⊎ IsFaultAt s h text f
 check_told s h text ts x f tokens offered read (inl m) = inl m
-check_told s h text ts x f tokens offered read (inr g) = inr (inr (inr (ts, tokens, offered, record { tree = x; read = read; is = g })))
+check_told s h text ts x f tokens offered read (inr g) = inr (inr (inr (ts, tokens, offered, (x, read, g))))
 
 -- ---- the script
 

@@ -31,10 +31,10 @@ substituted_or_fault k s h text m t f a (inr (inl b)) =
     no_unread k h.text a.placed (length text) f a.tree a.offered a.read (subst (λ (ts : List PlacedToken). IsUnread h.text ts (length text) f) same b.2)
 substituted_or_fault k s h text m t f a (inr (inr b)) =
     let same = placed_one k h.state text a.placed b.0 a.tokens b.1 in
-    let one : a.tree ≡ b.3.tree = tree_one k h.text b.0 a.tree b.3.tree (subst (λ (ts : List PlacedToken). IsReadAs h.text (lexemes ts) a.tree) same a.read) b.3.read in
-    let items : t.items ≡ h.around b.3.tree = a.items_are ∙ ap (λ (z : TreeOf h.text). h.around z) one in
-    let named : fault_of t.items t.external ≡ fault_of (h.around b.3.tree) s.external = ap (λ (is : List Item). fault_of is t.external) items ∙ ap (λ (n : List ℕ). fault_of (h.around b.3.tree) n) a.external_is in
-    some_none f (fault_of t.items t.external) a.well_declared (named ∙ b.3.is)
+    let one : a.tree ≡ b.3.0 = tree_one k h.text b.0 a.tree b.3.0 (subst (λ (ts : List PlacedToken). IsReadAs h.text (lexemes ts) a.tree) same a.read) b.3.1 in
+    let items : t.items ≡ h.around b.3.0 = a.items_are ∙ ap (λ (z : TreeOf h.text). h.around z) one in
+    let named : fault_of t.items t.external ≡ fault_of (h.around b.3.0) s.external = ap (λ (is : List Item). fault_of is t.external) items ∙ ap (λ (n : List ℕ). fault_of (h.around b.3.0) n) a.external_is in
+    some_none f (fault_of t.items t.external) a.well_declared (named ∙ b.3.2)
 
 -- there are as many amongs, or not
 kept_or_not : Facts → (s : Source) (h : Home) (text : List ℕ) (t u : Source) → IsSubstitutedAt s h text true t → IsSubstitutedAt s h text false u → ⊥

@@ -16,7 +16,8 @@ use Rattle.sbl_parser.specs.Reading.{IsReadAs, IsSyntaxAt, IsTooDeepAt, IsOutOfP
 use Rattle.sbl_parser.specs.Laws as grammar
 use Rattle.sbl_ast.specs.Source.{Source}
 use Rattle.sbl_resolver.specs.Checks.{fault_of}
-use Rattle.sbl_script.specs.Reading.{HasTokens, IsScriptOf, IsTextFault, IsGrammarFault, IsCheckFault, IsUnread, IsFaultIn, IsFaultOf, first_left_out, place_of, lexemes}
+use Rattle.sbl_script.proofs.Places.{IsGrammarFault}
+use Rattle.sbl_script.specs.Reading.{HasTokens, IsScriptOf, IsTextFault, IsUnread, IsFaultIn, IsFaultOf, first_left_out, place_of, lexemes}
 
 -- what is known of tokens and of trees
 pub record Facts : Type 0 where
@@ -73,9 +74,9 @@ fault_at_place grammar.out_of_profile place = fault.OutOfProfile place
 abbrev Found : Text → List PlacedToken → ℕ → List PlacedToken → ScriptFault → Type 0
 Found w ts end rest f = (x : grammar.Wrong) × grammar.IsWrongAt w x (lexemes ts) (lexemes rest) × (f ≡ fault_at_place x (place_of end rest))
 
-found_wrong : (w : Text) (ts : List PlacedToken) (end : ℕ) (f : ScriptFault) (h : IsGrammarFault w ts end f) → Found w ts end h.rest f
-found_wrong w ts end f h = go h.is where
-  go : (IsSyntaxAt w (lexemes ts) (lexemes h.rest) × (f ≡ fault.Syntax (place_of end h.rest))) ⊎ (IsTooDeepAt w (lexemes ts) (lexemes h.rest) × (f ≡ fault.TooDeep (place_of end h.rest))) ⊎ (IsOutOfProfileAt w (lexemes ts) (lexemes h.rest) × (f ≡ fault.OutOfProfile (place_of end h.rest))) → Found w ts end h.rest f
+found_wrong : (w : Text) (ts : List PlacedToken) (end : ℕ) (f : ScriptFault) (h : IsGrammarFault w ts end f) → Found w ts end h.1 f
+found_wrong w ts end f h = go h.3 where
+  go : (IsSyntaxAt w (lexemes ts) (lexemes h.1) × (f ≡ fault.Syntax (place_of end h.1))) ⊎ (IsTooDeepAt w (lexemes ts) (lexemes h.1) × (f ≡ fault.TooDeep (place_of end h.1))) ⊎ (IsOutOfProfileAt w (lexemes ts) (lexemes h.1) × (f ≡ fault.OutOfProfile (place_of end h.1))) → Found w ts end h.1 f
   go (inl a) = (grammar.syntax, a.0, a.1)
   go (inr (inl a)) = (grammar.too_deep, a.0, a.1)
   go (inr (inr a)) = (grammar.out_of_profile, a.0, a.1)
@@ -90,14 +91,14 @@ grammar_is_one : Facts → (w : Text) (ts : List PlacedToken) (end : ℕ) (f g :
 grammar_is_one k w ts end f g h j =
     let a = found_wrong w ts end f h in
     let b = found_wrong w ts end g j in
-    let same = k.fault w (lexemes ts) (lexemes h.rest) (lexemes j.rest) a.0 b.0 a.1 b.1 in
-    let lengths : length h.rest ≡ length j.rest = sym (length-map h.rest _) ∙ ap length same.1 ∙ length-map j.rest _ in
-    let rest : h.rest ≡ j.rest = same_rest h.before j.before h.rest j.rest (sym h.parts ∙ j.parts) lengths in
-    a.2 ∙ ap (λ (x : grammar.Wrong). fault_at_place x (place_of end h.rest)) same.0 ∙ ap (λ (r : List PlacedToken). fault_at_place b.0 (place_of end r)) rest ∙ sym b.2
+    let same = k.fault w (lexemes ts) (lexemes h.1) (lexemes j.1) a.0 b.0 a.1 b.1 in
+    let lengths : length h.1 ≡ length j.1 = sym (length-map h.1 _) ∙ ap length same.1 ∙ length-map j.1 _ in
+    let rest : h.1 ≡ j.1 = same_rest h.0 j.0 h.1 j.1 (sym h.2 ∙ j.2) lengths in
+    a.2 ∙ ap (λ (x : grammar.Wrong). fault_at_place x (place_of end h.1)) same.0 ∙ ap (λ (r : List PlacedToken). fault_at_place b.0 (place_of end r)) rest ∙ sym b.2
 
 -- a tree has none
 no_grammar_fault : Facts → (w : Text) (ts : List PlacedToken) (end : ℕ) (f : ScriptFault) (tree : TreeOf w) → IsReadAs w (lexemes ts) tree → IsGrammarFault w ts end f → ⊥
-no_grammar_fault k w ts end f tree h j = let a = found_wrong w ts end f j in k.none w (lexemes ts) (lexemes j.rest) tree a.0 h a.1
+no_grammar_fault k w ts end f tree h j = let a = found_wrong w ts end f j in k.none w (lexemes ts) (lexemes j.1) tree a.0 h a.1
 
 pub some_one : {X : Type 0} (x y : X) → Some x ≡ Some y → x ≡ y
 some_one x y e = cc
@@ -124,8 +125,11 @@ tree_one k w ts x y h g = k.tree w x y (h.0 ∙ sym g.0)
 
 -- a text has one fault
 module _ (k : Facts) (w : Text) (s : Directives) (around : TreeOf w → List Item) (external text : List ℕ) (f g : ScriptFault) where
-  check_is_one : (ts : List PlacedToken) → IsCheckFault w around external ts f → IsCheckFault w around external ts g → f ≡ g
-  check_is_one ts a b = some_one f g (sym a.is ∙ ap (λ (x : TreeOf w). fault_of (around x) external) (tree_one k w ts a.tree b.tree a.read b.read) ∙ b.is)
+  abbrev IsCheckFault : List PlacedToken → ScriptFault → Type 0
+  IsCheckFault ts f = (tree : TreeOf w) × IsReadAs w (lexemes ts) tree × (fault_of (around tree) external ≡ Some f)
+
+  check_is_one : (ts : List PlacedToken) → IsCheckFault ts f → IsCheckFault ts g → f ≡ g
+  check_is_one ts a b = some_one f g (sym a.2 ∙ ap (λ (x : TreeOf w). fault_of (around x) external) (tree_one k w ts a.0 b.0 a.1 b.1) ∙ b.2)
 
   pub fault_is_one : IsFaultIn w s around external text f → IsFaultIn w s around external text g → f ≡ g
   fault_is_one (inl a) (inl b) = text_is_one k s text f g a b
@@ -138,13 +142,13 @@ module _ (k : Facts) (w : Text) (s : Directives) (around : TreeOf w → List Ite
       unread_is_one k w b.0 (length text) f g (subst (λ (ts : List PlacedToken). IsUnread w ts (length text) f) same a.2) b.2
   fault_is_one (inr (inl a)) (inr (inr b)) =
       let same = placed_one k s text a.0 b.0 a.1 b.1 in
-      absurd (no_unread k w b.0 (length text) f b.3.tree b.2 b.3.read (subst (λ (ts : List PlacedToken). IsUnread w ts (length text) f) same a.2))
+      absurd (no_unread k w b.0 (length text) f b.3.0 b.2 b.3.1 (subst (λ (ts : List PlacedToken). IsUnread w ts (length text) f) same a.2))
   fault_is_one (inr (inr a)) (inr (inl b)) =
       let same = placed_one k s text b.0 a.0 b.1 a.1 in
-      absurd (no_unread k w a.0 (length text) g a.3.tree a.2 a.3.read (subst (λ (ts : List PlacedToken). IsUnread w ts (length text) g) same b.2))
+      absurd (no_unread k w a.0 (length text) g a.3.0 a.2 a.3.1 (subst (λ (ts : List PlacedToken). IsUnread w ts (length text) g) same b.2))
   fault_is_one (inr (inr a)) (inr (inr b)) =
       let same = placed_one k s text a.0 b.0 a.1 b.1 in
-      check_is_one b.0 (subst (λ (ts : List PlacedToken). IsCheckFault w around external ts f) same a.3) b.3
+      check_is_one b.0 (subst (λ (ts : List PlacedToken). IsCheckFault ts f) same a.3) b.3
 
 pub same_source : (s t : Source) → s.items ≡ t.items → s.external ≡ t.external → s ≡ t
 same_source s t a b = ap (λ (i : List Item). with_external i s.external) a ∙ ap (λ (e : List ℕ). with_external t.items e) b where
@@ -165,6 +169,6 @@ script_or_fault k bytes external s f h (inr (inl a)) =
 script_or_fault k bytes external s f h (inr (inr a)) =
     let same = placed_one k start bytes h.placed a.0 h.tokens a.1 in
     let tree = subst (λ (ts : List PlacedToken). IsReadAs script (lexemes ts) s.items) same h.tree in
-    let items : s.items ≡ a.3.tree = tree_one k script a.0 s.items a.3.tree tree a.3.read in
-    let named : fault_of s.items s.external ≡ fault_of a.3.tree external = ap (λ (is : List Item). fault_of is s.external) items ∙ ap (λ (e : List ℕ). fault_of a.3.tree e) h.external_is in
-    some_none f (fault_of s.items s.external) h.well_declared (named ∙ a.3.is)
+    let items : s.items ≡ a.3.0 = tree_one k script a.0 s.items a.3.0 tree a.3.1 in
+    let named : fault_of s.items s.external ≡ fault_of a.3.0 external = ap (λ (is : List Item). fault_of is s.external) items ∙ ap (λ (e : List ℕ). fault_of a.3.0 e) h.external_is in
+    some_none f (fault_of s.items s.external) h.well_declared (named ∙ a.3.2)

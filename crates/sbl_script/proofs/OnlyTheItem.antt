@@ -9,6 +9,7 @@ use Rattle.sbl_text.specs.Tokens.{PlacedToken}
 use Rattle.sbl_ast.specs.Order.{in_order}
 use Rattle.sbl_ast.specs.Tree.{Plain, declaration, escapes, macro, routine, grouping, Item}
 use Rattle.sbl_ast.specs.Texts.{TreeOf}
+use Rattle.sbl_parser.specs.Reading.{IsReadAs}
 use Rattle.sbl_ast.specs.declared.tree.DeclarationKind.TheVariants as declared_kinds
 use Rattle.sbl_ast.specs.Amongs.{AmongContents, amongs_of_body, nth_held, put_in_body}
 use Rattle.sbl_resolver.specs.declared.occurrences.Site.{Site}
@@ -16,7 +17,7 @@ use Rattle.sbl_resolver.specs.Occurrences.{Occurrence, Notice, declares, defines
 use Rattle.sbl_script.specs.declared.edit_fault.EditFault.{EditFault}
 use Rattle.sbl_script.specs.declared.edit_fault.EditFault.TheVariants as edits
 use Rattle.sbl_ast.specs.Source.{Source}
-use Rattle.sbl_script.specs.Reading.{IsCheckFault}
+use Rattle.sbl_script.specs.Reading.{lexemes}
 use Rattle.sbl_resolver.specs.Bodies.{body_in}
 use Rattle.sbl_resolver.specs.Checks.{kind_of, defined_at, definition_of, is_awaited, is_text_of, is_kind, has_external, fault_at, fault_of, WellDeclared}
 use Rattle.sbl_resolver.specs.inside.CheckParts.{declared_as, waits_after}
@@ -420,12 +421,12 @@ place_of items (terms n) h (Some (macro m b q)) at is = absurd cc
 place_of items (terms n) h (Some (routine m c os)) at is = absurd cc
 
 -- a check that fails tells the item
-check_tells : (s : Source) (e : ScriptEdit) (h : Home) (ts : List PlacedToken) (f : ScriptFault) → WellDeclared s.items s.external → home s.items e ≡ Ok h → IsCheckFault h.text h.around s.external ts f →
+check_tells : (s : Source) (e : ScriptEdit) (h : Home) (ts : List PlacedToken) (f : ScriptFault) → WellDeclared s.items s.external → home s.items e ≡ Ok h → ((tree : TreeOf h.text) × IsReadAs h.text (lexemes ts) tree × (fault_of (h.around tree) s.external ≡ Some f)) →
     (i : ℕ) × (item_of f ≡ Some i) × (number_of (changes e) s.items ≡ Some i)
 check_tells s e h ts f well there bad =
-    let r = place_of s.items e h (first_passing (changes e) s.items) refl there bad.tree in
+    let r = place_of s.items e h (first_passing (changes e) s.items) refl there bad.0 in
     let parts = parts_of (changes e) r.item s.items r.there in
-    fault_item s.items s.external e r.item r.same well parts f (ap (λ (is : List Item). fault_of is s.external) (sym r.is) ∙ bad.is)
+    fault_item s.items s.external e r.item r.same well parts f (ap (λ (is : List Item). fault_of is s.external) (sym r.is) ∙ bad.2)
 
 -- a fault of a text tells none
 not_told : (f : ScriptFault) (i : ℕ) → is_checked f ≡ false → item_of f ≡ Some i → ⊥

@@ -9,7 +9,7 @@ use Rattle.sbl_text.specs.Tokens.{PlacedToken, placed_of}
 use Rattle.sbl_parser.specs.Reading.{IsSyntaxAt, IsTooDeepAt, IsOutOfProfileAt}
 use Rattle.sbl_ast.specs.Texts.{Text}
 use Rattle.sbl_parser.specs.FaultOffsets as grammar
-use Rattle.sbl_script.specs.Reading.{lexemes, place_of, IsGrammarFault, IsUnread, first_left_out}
+use Rattle.sbl_script.specs.Reading.{lexemes, place_of, IsUnread, first_left_out}
 
 pub lexemes_same : (ts : List Token) → map lexeme_of ts ≡ lexemes (map placed_of ts)
 lexemes_same [] = refl
@@ -26,26 +26,22 @@ lexemes_of_drop : (P : List Lexeme → List Lexeme → Type 0) (ts : List Token)
 lexemes_of_drop P ts n h =
     subst (λ (x : List Lexeme). P x (lexemes (map placed_of (drop n ts)))) (lexemes_same ts) (subst (λ (x : List Lexeme). P (map lexeme_of ts) x) (lexemes_same (drop n ts)) h)
 
+-- the tokens, in a text of this length, form no tree, or one is too deep: the second part of `IsUnread`
+abbrev pub IsGrammarFault : Text → List PlacedToken → ℕ → ScriptFault → Type 0
+IsGrammarFault w ts end f =
+    (before : List PlacedToken) × (rest : List PlacedToken) × (ts ≡ before ++ rest)
+    × ((IsSyntaxAt w (lexemes ts) (lexemes rest) × (f ≡ fault.Syntax (place_of end rest)))
+    ⊎ (IsTooDeepAt w (lexemes ts) (lexemes rest) × (f ≡ fault.TooDeep (place_of end rest)))
+    ⊎ (IsOutOfProfileAt w (lexemes ts) (lexemes rest) × (f ≡ fault.OutOfProfile (place_of end rest))))
+
 -- the grammar's fault of some tokens
 pub grammar_fault_of : (w : Text) (ts : List Token) (end : ℕ) (f : ScriptFault) → grammar.IsFaultOf w ts end f → IsGrammarFault w (map placed_of ts) end f
-grammar_fault_of w ts end (fault.Syntax place) (n, is, h) = record {
-  before = map placed_of (take n ts);
-  rest = map placed_of (drop n ts);
-  parts = map_placed_cut ts n;
-  is = inl (lexemes_of_drop (IsSyntaxAt w) ts n h, ap fault.Syntax (is ∙ place_same (drop n ts) end));
-}
-grammar_fault_of w ts end (fault.TooDeep place) (n, is, h) = record {
-  before = map placed_of (take n ts);
-  rest = map placed_of (drop n ts);
-  parts = map_placed_cut ts n;
-  is = inr (inl (lexemes_of_drop (IsTooDeepAt w) ts n h, ap fault.TooDeep (is ∙ place_same (drop n ts) end)));
-}
-grammar_fault_of w ts end (fault.OutOfProfile place) (n, is, h) = record {
-  before = map placed_of (take n ts);
-  rest = map placed_of (drop n ts);
-  parts = map_placed_cut ts n;
-  is = inr (inr (lexemes_of_drop (IsOutOfProfileAt w) ts n h, ap fault.OutOfProfile (is ∙ place_same (drop n ts) end)));
-}
+grammar_fault_of w ts end (fault.Syntax place) (n, is, h) =
+    (map placed_of (take n ts), map placed_of (drop n ts), map_placed_cut ts n, inl (lexemes_of_drop (IsSyntaxAt w) ts n h, ap fault.Syntax (is ∙ place_same (drop n ts) end)))
+grammar_fault_of w ts end (fault.TooDeep place) (n, is, h) =
+    (map placed_of (take n ts), map placed_of (drop n ts), map_placed_cut ts n, inr (inl (lexemes_of_drop (IsTooDeepAt w) ts n h, ap fault.TooDeep (is ∙ place_same (drop n ts) end))))
+grammar_fault_of w ts end (fault.OutOfProfile place) (n, is, h) =
+    (map placed_of (take n ts), map placed_of (drop n ts), map_placed_cut ts n, inr (inr (lexemes_of_drop (IsOutOfProfileAt w) ts n h, ap fault.OutOfProfile (is ∙ place_same (drop n ts) end))))
 grammar_fault_of w ts end _ h = absurd h
 
 pub unread : {X : Type 0} (w : Text) (r : Result X ScriptFault) (ts : List Token) (end : ℕ) → first_left_out (map placed_of ts) ≡ None

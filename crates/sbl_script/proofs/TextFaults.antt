@@ -129,4 +129,4 @@ text_fault s bytes f (inr (inr (short, is, (before, rest, ps, t, parts, cut, inr
 
 pub unread : (w : Text) (ts : List PlacedToken) (end : ℕ) (f : ScriptFault) → IsUnread w ts end f → is_checked f ≡ false
 unread w ts end f (inl (place, left, said)) = as_said f _ refl said
-unread w ts end f (inr (offered, g)) = one_of_three f _ _ _ refl refl refl g.is
+unread w ts end f (inr (offered, g)) = one_of_three f _ _ _ refl refl refl g.3

@@ -57,35 +57,23 @@ abbrev pub place_of : ℕ → List PlacedToken → ℕ
 place_of end [] = end
 place_of end (t ∷ ts) = t.start
 
--- the tokens, in a text of this length, form no tree, or one is too deep
-pub record IsGrammarFault (w : Text) (ts : List PlacedToken) (end : ℕ) (f : ScriptFault) : Type 0 where
-  pub before : List PlacedToken
-  pub rest : List PlacedToken
-  pub parts : ts ≡ before ++ rest
-  pub is :
-      (IsSyntaxAt w (lexemes ts) (lexemes rest) × (f ≡ fault.Syntax (place_of end rest)))
-      ⊎ (IsTooDeepAt w (lexemes ts) (lexemes rest) × (f ≡ fault.TooDeep (place_of end rest)))
-      ⊎ (IsOutOfProfileAt w (lexemes ts) (lexemes rest) × (f ≡ fault.OutOfProfile (place_of end rest)))
-
--- a token is not supported, or the tokens form no tree
+-- a token is not supported; or the tokens, in a text of this length, form no tree, or one is too deep
 abbrev pub IsUnread : Text → List PlacedToken → ℕ → ScriptFault → Type 0
 IsUnread w ts end f =
     ((place : ℕ) × (first_left_out ts ≡ Some place) × (f ≡ fault.OutOfProfile place))
-    ⊎ ((first_left_out ts ≡ None) × IsGrammarFault w ts end f)
+    ⊎ ((first_left_out ts ≡ None) × ((before : List PlacedToken) × (rest : List PlacedToken) × (ts ≡ before ++ rest)
+    × ((IsSyntaxAt w (lexemes ts) (lexemes rest) × (f ≡ fault.Syntax (place_of end rest)))
+    ⊎ (IsTooDeepAt w (lexemes ts) (lexemes rest) × (f ≡ fault.TooDeep (place_of end rest)))
+    ⊎ (IsOutOfProfileAt w (lexemes ts) (lexemes rest) × (f ≡ fault.OutOfProfile (place_of end rest))))))
 
--- The tokens form a tree, and a check of the script with this tree fails with fault f. `around` makes the items of the
--- script from the tree.
-pub record IsCheckFault (w : Text) (around : TreeOf w → List Item) (external : List ℕ) (ts : List PlacedToken) (f : ScriptFault) : Type 0 where
-  pub tree : TreeOf w
-  pub read : IsReadAs w (lexemes ts) tree
-  pub is : fault_of (around tree) external ≡ Some f
-
--- f is the fault of a text that begins in state s: as bytes, else as tokens, else in a check
+-- f is the fault of a text that begins in state s: as bytes, else as tokens, else in a check of the script, whose items `around` makes
+-- from the tree of the tokens
 abbrev pub IsFaultIn : (w : Text) → Directives → (TreeOf w → List Item) → List ℕ → List ℕ → ScriptFault → Type 0
 IsFaultIn w s around external text f =
     IsTextFault s text f
     ⊎ ((ts : List PlacedToken) × HasTokens s text ts × IsUnread w ts (length text) f)
-    ⊎ ((ts : List PlacedToken) × HasTokens s text ts × (first_left_out ts ≡ None) × IsCheckFault w around external ts f)
+    ⊎ ((ts : List PlacedToken) × HasTokens s text ts × (first_left_out ts ≡ None)
+    × ((tree : TreeOf w) × IsReadAs w (lexemes ts) tree × (fault_of (around tree) external ≡ Some f)))
 
 -- f is the fault of these bytes as a script with this external
 abbrev pub IsFaultOf : List ℕ → List ℕ → ScriptFault → Type 0

@@ -19,7 +19,7 @@ use Rattle.sbl_resolver.specs.Occurrences.{occurrences_of}
 use Rattle.sbl_resolver.specs.Checks.{fault_of}
 use Rattle.sbl_resolver.specs.Laws.{IsFirst, FaultIsFirst, WellDeclaredPasses, EachPasses}
 use Rattle.sbl_resolver.specs.Subjects.{Subject, IsFirstAfter}
-use Rattle.sbl_script.specs.Reading.{HasTokens, IsCheckFault, first_left_out, lexemes}
+use Rattle.sbl_script.specs.Reading.{HasTokens, first_left_out, lexemes}
 use Rattle.sbl_source_map.specs.SubjectTokens.{SubjectToken, subject_tokens}
 use Rattle.sbl_source_map.specs.FaultPlaces.{SubjectsAreTokens, IsFaultAt, TokenIsSubject, FaultIsAtOne, FaultAtIsFault, FaultIsAt, is_of_token}
 use Rattle.sbl_source_map.proofs.Codes.{fault_of_token, not_of_text, not_of_grammar}
@@ -77,19 +77,19 @@ pub fault_at_is_fault : FaultIsFirst → WellDeclaredPasses → FaultAtIsFault
 fault_at_is_fault first passes bytes external f t h =
     let i = h.first.first in (
       fault_of_token (occurrences_of h.items) i.before i.after i.occurrence f i.fault,
-      inr (inr (h.placed, h.tokens, h.offered, record { tree = h.items; read = h.tree; is = is_fault first passes h.items external f i })),
+      inr (inr (h.placed, h.tokens, h.offered, (h.items, h.tree, is_fault first passes h.items external f i))),
     )
 
 never : {X : Type 0} (f : ScriptFault) → is_of_token f ≡ true → is_of_token f ≡ false → X
 never f h e = absurd cc
 
-fault_of_check : FaultIsFirst → (bytes external : List ℕ) (ts : List PlacedToken) (f : ScriptFault) → is_of_token f ≡ true → HasTokens start bytes ts → first_left_out ts ≡ None → IsCheckFault script (λ items. items) external ts f
+fault_of_check : FaultIsFirst → (bytes external : List ℕ) (ts : List PlacedToken) (f : ScriptFault) → is_of_token f ≡ true → HasTokens start bytes ts → first_left_out ts ≡ None → (h : (items : List Item) × IsReadAs script (lexemes ts) items × (fault_of items external ≡ Some f))
     → (t : SubjectToken) × IsFaultAt bytes f t
-fault_of_check first bytes external ts f of_token tokens offered h = elim (first h.tree external f h.is) [
+fault_of_check first bytes external ts f of_token tokens offered h = elim (first h.0 external f h.2) [
   | inl j ↦
-      let a = after_first (occurrences_of h.tree) f j in
-      let t = has_token ts h.tree a.0 f h.read a.1 in
-      (t.0, record { placed = ts; tokens = tokens; offered = offered; items = h.tree; tree = h.read; number = a.0; first = a.1; token = t.1 })
+      let a = after_first (occurrences_of h.0) f j in
+      let t = has_token ts h.0 a.0 f h.1 a.1 in
+      (t.0, record { placed = ts; tokens = tokens; offered = offered; items = h.0; tree = h.1; number = a.0; first = a.1; token = t.1 })
   | inr x ↦ never f of_token (ap is_of_token x.2)
 ]
 

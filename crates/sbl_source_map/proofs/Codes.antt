@@ -142,8 +142,8 @@ not_of_text s bytes f (inr (inr (short, text, h))) = not_of_tokens s _ f h
 
 pub not_of_grammar : (w : Text) (ts : List PlacedToken) (end : ℕ) (f : ScriptFault) → IsUnread w ts end f → is_of_token f ≡ false
 not_of_grammar w ts end f (inl (place, first, same)) = ap is_of_token same
-not_of_grammar w ts end f (inr (offered, h)) = go h.is where
-  go : (IsSyntaxAt w (lexemes ts) (lexemes h.rest) × (f ≡ fault.Syntax (place_of end h.rest))) ⊎ (IsTooDeepAt w (lexemes ts) (lexemes h.rest) × (f ≡ fault.TooDeep (place_of end h.rest))) ⊎ (IsOutOfProfileAt w (lexemes ts) (lexemes h.rest) × (f ≡ fault.OutOfProfile (place_of end h.rest))) → is_of_token f ≡ false
+not_of_grammar w ts end f (inr (offered, h)) = go h.3 where
+  go : (IsSyntaxAt w (lexemes ts) (lexemes h.1) × (f ≡ fault.Syntax (place_of end h.1))) ⊎ (IsTooDeepAt w (lexemes ts) (lexemes h.1) × (f ≡ fault.TooDeep (place_of end h.1))) ⊎ (IsOutOfProfileAt w (lexemes ts) (lexemes h.1) × (f ≡ fault.OutOfProfile (place_of end h.1))) → is_of_token f ≡ false
   go (inl a) = ap is_of_token a.1
   go (inr (inl a)) = ap is_of_token a.1
   go (inr (inr a)) = ap is_of_token a.1

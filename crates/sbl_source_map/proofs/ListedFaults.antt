@@ -32,7 +32,7 @@ first_is_fault first bytes external x xs (inl (ts, items, read, is)) =
       ts,
       read.0,
       read.1,
-      record { tree = items; read = read.2; is = sym (first items external) ∙ first_of_checks (subject_tokens ts) (faults_of items external) x xs is },
+      (items, read.2, sym (first items external) ∙ first_of_checks (subject_tokens ts) (faults_of items external) x xs is),
     ))
 first_is_fault first bytes external x xs (inr (f, range, unread, at, is)) =
     let same : f ≡ x.fault = cc in subst (IsFaultOf bytes external) same (unread_is_fault bytes external f unread)

@@ -100,8 +100,8 @@ of_tokens s text f (before, rest, ps, t, parts, cut, inr (k, x, more, is, piece,
 
 of_grammar : (w : Text) (ts : List PlacedToken) (end : ℕ) (f : ScriptFault) → IsUnread w ts end f → is_placed f ≡ true
 of_grammar w ts end f (inl (place, first, same)) = ap is_placed same
-of_grammar w ts end f (inr (offered, h)) = go h.is where
-  go : (IsSyntaxAt w (lexemes ts) (lexemes h.rest) × (f ≡ fault.Syntax (place_of end h.rest))) ⊎ (IsTooDeepAt w (lexemes ts) (lexemes h.rest) × (f ≡ fault.TooDeep (place_of end h.rest))) ⊎ (IsOutOfProfileAt w (lexemes ts) (lexemes h.rest) × (f ≡ fault.OutOfProfile (place_of end h.rest))) → is_placed f ≡ true
+of_grammar w ts end f (inr (offered, h)) = go h.3 where
+  go : (IsSyntaxAt w (lexemes ts) (lexemes h.1) × (f ≡ fault.Syntax (place_of end h.1))) ⊎ (IsTooDeepAt w (lexemes ts) (lexemes h.1) × (f ≡ fault.TooDeep (place_of end h.1))) ⊎ (IsOutOfProfileAt w (lexemes ts) (lexemes h.1) × (f ≡ fault.OutOfProfile (place_of end h.1))) → is_placed f ≡ true
   go (inl a) = ap is_placed a.1
   go (inr (inl a)) = ap is_placed a.1
   go (inr (inr a)) = ap is_placed a.1
