@@ -5,8 +5,8 @@ use Rattle.std.proofs.Math.ListN.{get_or, drop_of_length-le}
 use Rattle.sbl_ast.specs.Tree as trees
 use Rattle.sbl_ast.specs.Counts.{count_amongs, count_in_rows, count_in_others, count_in_groups, count_in_starter, count_in_among}
 use Rattle.sbl_ast.specs.Amongs.{put_among, put_in_among, put_in_body, put_in_rows, put_in_others, put_in_starter, put_in_groups}
-use Rattle.sbl_ast.specs.View.{RowView, NextCommandView, GroupView, rows_of}
-use Rattle.sbl_ast.specs.inside.ViewParts.{others_of, groups_of}
+use Rattle.sbl_ast.specs.View.{RowView, GroupView, rows_of}
+use Rattle.sbl_ast.specs.inside.ViewParts.{NextCommandView, others_of, groups_of}
 
 -- rows, joined commands and groups, and then others
 abbrev pub then_rows : List RowView → trees.Rows → trees.Rows

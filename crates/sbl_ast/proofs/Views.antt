@@ -33,8 +33,8 @@ use Rattle.sbl_ast.specs.declared.tree.NextCommand.{NextCommand}
 use Rattle.sbl_ast.specs.declared.tree.RowOfCommands.{RowOfCommands as Row}
 use Rattle.sbl_ast.specs.declared.tree.Entry.{Entry}
 use Rattle.sbl_ast.specs.Tree as trees
-use Rattle.sbl_ast.specs.View.{view_literal, view_argument, NextProductView, NextFactorView, expression_step, factor_step, product_step, view_expression, view_entry, AmongView, RowView, NextCommandView, GroupView, among_step, command_step, group_step, row_step, view_among, view_command, view_row}
-use Rattle.sbl_ast.specs.inside.ViewParts.{next_product_step, next_factor_step, next_command_step}
+use Rattle.sbl_ast.specs.View.{view_literal, view_argument, factor_step, view_expression, view_entry, AmongView, RowView, GroupView, among_step, command_step, group_step, row_step, view_among, view_command, view_row}
+use Rattle.sbl_ast.specs.inside.ViewParts.{NextProductView, NextFactorView, expression_step, product_step, NextCommandView, next_product_step, next_factor_step, next_command_step}
 use Rattle.sbl_ast.specs.inside.ViewParts.{view_next_product, view_factor, view_product, view_next_factor, view_sums, view_scales, view_group, view_next_command, view_rows, view_others, view_groups, view_starter}
 
 pub factor_Minus : (b : Box Factor) → view_factor (factors.Minus b) ≡ trees.negated (view_factor b.value)

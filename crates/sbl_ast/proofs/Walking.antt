@@ -15,8 +15,8 @@ use Rattle.sbl_ast.specs.Tree.{Command, bracket, counted, setlimit_, among_, Row
 use Rattle.sbl_ast.specs.Amongs.{AmongContents, amongs, amongs_of_rows, amongs_of_others, amongs_of_starter, amongs_of_groups, nth_held}
 use Rattle.sbl_ast.specs.WalkEnds.{Finds}
 use Rattle.sbl_ast.specs.Places.{AtDepth, placed_expression, placed_entry, placed_entries, placed_command, placed_rows, placed_others, placed_starter, placed_groups, AreShallow}
-use Rattle.sbl_ast.specs.View.{AmongView, RowView, NextCommandView, GroupView, among_step, command_step, group_step, row_step, rows_of, view_among, view_command, view_entry, view_row}
-use Rattle.sbl_ast.specs.inside.ViewParts.{next_command_step}
+use Rattle.sbl_ast.specs.View.{AmongView, RowView, GroupView, among_step, command_step, group_step, row_step, rows_of, view_among, view_command, view_entry, view_row}
+use Rattle.sbl_ast.specs.inside.ViewParts.{NextCommandView, next_command_step}
 use Rattle.sbl_ast.specs.inside.ViewParts.{others_of, groups_of, view_groups, view_others}
 use Rattle.sbl_ast.proofs.After.{IsBefore, by_itself, after_it, with_after, entry_before, entries_before, expression_before, tree_before, rows_before, others_before, starter_before, groups_before}
 

@@ -8,7 +8,7 @@ use Rattle.sbl_ast.specs.declared.tree.Argument.TheVariants as arguments
 use Rattle.sbl_ast.specs.declared.tree.Expression.{Expression}
 use Rattle.sbl_ast.specs.declared.tree.Product.{Product}
 use Rattle.sbl_ast.specs.declared.tree.Factor.{Factor}
-use Rattle.sbl_ast.specs.declared.tree.Factor.TheOpen.{Expression-F, Factor-F, Product-F}
+use Rattle.sbl_ast.specs.declared.tree.Factor.TheOpen.{Factor-F}
 use Rattle.sbl_ast.specs.declared.tree.Factor.TheFolds.{fold-Expression}
 use Rattle.sbl_ast.specs.declared.tree.Command.{Command}
 use Rattle.sbl_ast.specs.declared.tree.Among.{Among}
@@ -37,16 +37,8 @@ view_argument (arguments.Name n) = trees.by_name (string_bytes n)
 
 -- ---- arithmetic
 
-abbrev pub NextProductView : Type 0
-NextProductView = Additive × trees.Product
-
-abbrev pub NextFactorView : Type 0
-NextFactorView = Multiplicative × trees.Factor
-
-abbrev pub expression_step : Expression-F trees.Factor trees.Expression NextFactorView NextProductView trees.Product → trees.Expression
-expression_step e = trees.expression e.first (foldr (λ s. trees.sum s.0 s.1) trees.no_sums e.others.items)
-
-abbrev pub factor_step : Factor-F trees.Factor trees.Expression NextFactorView NextProductView trees.Product → trees.Factor
+abbrev pub factor_step : Factor-F trees.Factor trees.Expression (Multiplicative × trees.Factor) (Additive × trees.Product) trees.Product
+    → trees.Factor
 factor_step (Factor-F.Minus f) = trees.negated f.value
 factor_step (Factor-F.Bracket e) = trees.bracketed e.value
 factor_step (Factor-F.Number n) = trees.numeral n
@@ -54,28 +46,24 @@ factor_step (Factor-F.Name n) = trees.variable (string_bytes n)
 factor_step (Factor-F.Constant c) = trees.fixed c
 factor_step (Factor-F.LenOf a) = trees.length_of (view_argument a)
 
-abbrev pub product_step : Product-F trees.Factor trees.Expression NextFactorView NextProductView trees.Product → trees.Product
-product_step p = trees.product p.first (foldr (λ s. trees.scale s.0 s.1) trees.no_scales p.others.items)
-
 abbrev pub view_expression : Expression → trees.Expression
 view_expression =
-    fold-Expression trees.Factor trees.Expression NextFactorView NextProductView trees.Product
-    factor_step expression_step (λ s. (s.operator, s.factor)) (λ a. (a.operator, a.product)) product_step
+    fold-Expression trees.Factor trees.Expression (Multiplicative × trees.Factor) (Additive × trees.Product) trees.Product factor_step
+    (λ e. trees.expression e.first (foldr (λ s. trees.sum s.0 s.1) trees.no_sums e.others.items))
+    (λ s. (s.operator, s.factor)) (λ a. (a.operator, a.product))
+    (λ p. trees.product p.first (foldr (λ s. trees.scale s.0 s.1) trees.no_scales p.others.items))
 
 -- ---- commands
 
 abbrev pub view_entry : Entry → trees.Entry
 view_entry e = trees.entry (view_literal e.string) (option_map string_bytes e.condition)
 
--- an among, a row, a joined command and a group, before they become part of a tree
+-- an among, a row and a group, before they become part of a tree; a joined command is its joiner and itself
 abbrev pub AmongView : Type 0
 AmongView = trees.Starter × trees.Groups
 
 abbrev pub RowView : Type 0
 RowView = trees.Command × trees.Others
-
-abbrev pub NextCommandView : Type 0
-NextCommandView = Joiner × trees.Command
 
 pub record GroupView : Type 0 where
   pub first : trees.Entry
@@ -85,12 +73,12 @@ pub record GroupView : Type 0 where
 abbrev pub rows_of : List RowView → trees.Rows
 rows_of rs = foldr (λ r. trees.row r.0 r.1) trees.no_rows rs
 
-abbrev pub among_step : Among-F trees.Command AmongView GroupView NextCommandView RowView → AmongView
+abbrev pub among_step : Among-F trees.Command AmongView GroupView (Joiner × trees.Command) RowView → AmongView
 among_step a =
     let groups = foldr (λ g. trees.group g.first g.others g.rows) (trees.bare (map view_entry a.bare.items)) a.groups.items in
     (option_map_or (λ rs. trees.starter (rows_of rs.items)) a.starter trees.no_starter, groups)
 
-abbrev pub command_step : Command-F trees.Command AmongView GroupView NextCommandView RowView → trees.Command
+abbrev pub command_step : Command-F trees.Command AmongView GroupView (Joiner × trees.Command) RowView → trees.Command
 command_step (Command-F.Bracket rs) = trees.bracket (rows_of rs.items)
 command_step (Command-F.Simple s) = trees.simple_ s
 command_step (Command-F.Literal l) = trees.literal_ (view_literal l)
@@ -107,25 +95,25 @@ command_step (Command-F.Compare n o e) = trees.compare_ (string_bytes n) o (view
 command_step (Command-F.CompareValues e o f) = trees.compare_values_ (view_expression e) o (view_expression f)
 command_step (Command-F.Among a) = trees.among_ a.0 a.1
 
-abbrev pub group_step : Group-F trees.Command AmongView GroupView NextCommandView RowView → GroupView
+abbrev pub group_step : Group-F trees.Command AmongView GroupView (Joiner × trees.Command) RowView → GroupView
 group_step g = record { first = view_entry g.first; others = map view_entry g.others.items; rows = rows_of g.rows.items }
 
-abbrev pub row_step : RowOfCommands-F trees.Command AmongView GroupView NextCommandView RowView → RowView
+abbrev pub row_step : RowOfCommands-F trees.Command AmongView GroupView (Joiner × trees.Command) RowView → RowView
 row_step r = (r.first, foldr (λ o. trees.joined o.0 o.1) trees.no_others r.others.items)
 
 abbrev pub view_among : Among → AmongView
 view_among =
-    fold-Among trees.Command AmongView GroupView NextCommandView RowView
+    fold-Among trees.Command AmongView GroupView (Joiner × trees.Command) RowView
     command_step among_step group_step (λ o. (o.joiner, o.command)) row_step
 
 abbrev pub view_command : Command → trees.Command
 view_command =
-    fold-Command trees.Command AmongView GroupView NextCommandView RowView
+    fold-Command trees.Command AmongView GroupView (Joiner × trees.Command) RowView
     command_step among_step group_step (λ o. (o.joiner, o.command)) row_step
 
 abbrev pub view_row : Row → RowView
 view_row =
-    fold-RowOfCommands trees.Command AmongView GroupView NextCommandView RowView
+    fold-RowOfCommands trees.Command AmongView GroupView (Joiner × trees.Command) RowView
     command_step among_step group_step (λ o. (o.joiner, o.command)) row_step
 
 -- ---- items

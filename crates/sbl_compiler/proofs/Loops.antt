@@ -2,8 +2,8 @@
 use Rattle.std.proofs.Common.{◌≡◌, ◌∙◌, ◌∷◌, ◌++◌, [], ◌+◌, ◌<◌, ℕ, List, append_assoc, sym, ap, drop, get_or, length, map}
 use Rattle.std.proofs.lemmas.List.{drop_more, map_push}
 use Rattle.sbl_ast.specs.Tree as trees
-use Rattle.sbl_ast.specs.View.{GroupView, NextCommandView, NextFactorView, NextProductView, expression_step, factor_step, product_step, view_command, view_entry, view_row}
-use Rattle.sbl_ast.specs.inside.ViewParts.{next_factor_step, next_product_step}
+use Rattle.sbl_ast.specs.View.{GroupView, factor_step, view_command, view_entry, view_row}
+use Rattle.sbl_ast.specs.inside.ViewParts.{NextCommandView, NextFactorView, NextProductView, expression_step, product_step, next_factor_step, next_product_step}
 use Rattle.sbl_ast.specs.inside.ViewParts.{view_factor, view_groups, view_others, view_product, view_rows, view_scales, view_sums}
 use Rattle.sbl_ast.specs.declared.tree.Group.{Group, out-Group}
 use Rattle.sbl_ast.specs.declared.tree.NextCommand.{NextCommand}

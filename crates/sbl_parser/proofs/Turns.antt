@@ -5,8 +5,8 @@ use Rattle.sbl_ast.specs.Terminal.{Terminal}
 use Rattle.sbl_ast.specs.Terminal as t
 use Rattle.sbl_ast.specs.Tree.{QuotedText, Argument, Entry, entry, Term, term, Plain, Item}
 use Rattle.sbl_ast.specs.Spelled.{argument_terminal, spelled_sums, spelled_product, spelled_scales, spelled_factor, spelled_condition, spelled_entry, spelled_entries, spelled_command, spelled_rows, spelled_others, spelled_groups, spelled_names, spelled_terms, spelled_plain, spelled_plains, spelled_item, spelled_items}
-use Rattle.sbl_ast.specs.View.{NextProductView, NextFactorView, RowView, NextCommandView, GroupView, rows_of}
-use Rattle.sbl_ast.specs.inside.ViewParts.{sums_of, scales_of, others_of, groups_of}
+use Rattle.sbl_ast.specs.View.{RowView, GroupView, rows_of}
+use Rattle.sbl_ast.specs.inside.ViewParts.{NextProductView, NextFactorView, NextCommandView, sums_of, scales_of, others_of, groups_of}
 
 abbrev Ts : Type 0
 Ts = List Terminal

@@ -8,7 +8,7 @@ use Rattle.sbl_ast.specs.declared.tree.NextProduct.{NextProduct}
 use Rattle.sbl_ast.specs.declared.tree.Product.{Product}
 use Rattle.sbl_ast.specs.declared.tree.NextFactor.{NextFactor}
 use Rattle.sbl_ast.specs.declared.tree.Factor.{Factor}
-use Rattle.sbl_ast.specs.declared.tree.Factor.TheOpen.{NextProduct-F, NextFactor-F}
+use Rattle.sbl_ast.specs.declared.tree.Factor.TheOpen.{Expression-F, NextProduct-F, NextFactor-F, Product-F}
 use Rattle.sbl_ast.specs.declared.tree.Command.TheOpen.{NextCommand-F}
 use Rattle.sbl_ast.specs.declared.tree.Factor.TheFolds.{fold-NextProduct, fold-Factor, fold-Product, fold-NextFactor}
 use Rattle.sbl_ast.specs.declared.tree.Command.{Command}
@@ -17,10 +17,29 @@ use Rattle.sbl_ast.specs.declared.tree.NextCommand.{NextCommand}
 use Rattle.sbl_ast.specs.declared.tree.RowOfCommands.{RowOfCommands as Row}
 use Rattle.sbl_ast.specs.declared.tree.Command.TheFolds.{fold-Group, fold-NextCommand}
 use Rattle.sbl_ast.specs.declared.tree.Entry.{Entry}
+use Rattle.sbl_ast.specs.declared.tree.Joiner.{Joiner}
+use Rattle.sbl_ast.specs.declared.tree.Additive.{Additive}
+use Rattle.sbl_ast.specs.declared.tree.Multiplicative.{Multiplicative}
 use Rattle.sbl_ast.specs.Tree as trees
-use Rattle.sbl_ast.specs.View.{AmongView, GroupView, NextCommandView, NextFactorView, NextProductView, RowView, among_step, command_step}
-use Rattle.sbl_ast.specs.View.{expression_step, factor_step, group_step}
-use Rattle.sbl_ast.specs.View.{product_step, row_step, rows_of, view_row}
+use Rattle.sbl_ast.specs.View.{AmongView, GroupView, RowView, among_step, command_step}
+use Rattle.sbl_ast.specs.View.{factor_step, group_step, row_step, rows_of, view_row}
+
+-- ---- names for parts of View.antt
+
+abbrev pub NextProductView : Type 0
+NextProductView = Additive × trees.Product
+
+abbrev pub NextFactorView : Type 0
+NextFactorView = Multiplicative × trees.Factor
+
+abbrev pub NextCommandView : Type 0
+NextCommandView = Joiner × trees.Command
+
+abbrev pub expression_step : Expression-F trees.Factor trees.Expression NextFactorView NextProductView trees.Product → trees.Expression
+expression_step e = trees.expression e.first (foldr (λ s. trees.sum s.0 s.1) trees.no_sums e.others.items)
+
+abbrev pub product_step : Product-F trees.Factor trees.Expression NextFactorView NextProductView trees.Product → trees.Product
+product_step p = trees.product p.first (foldr (λ s. trees.scale s.0 s.1) trees.no_scales p.others.items)
 
 -- one level, with the view of each child
 abbrev pub next_product_step : NextProduct-F trees.Factor trees.Expression NextFactorView NextProductView trees.Product → NextProductView
