@@ -3,10 +3,12 @@ use Rattle.std.proofs.Common.{◌≡◌, ◌≢◌, ◌⊎◌, inl, inr, ◌∙�
 use Rattle.std.proofs.lemmas.List.{append-nil, length-map}
 use Rattle.std.proofs.lemmas.Slice.Eq.{bytes_eq-Decides}
 use Rattle.std.specs.Str.{bytes_eq, is_utf8}
+use Rattle.std.specs.List.{onto_first}
+use Rattle.std.specs.Str.Lines.{strip_carriage_return}
 use Rattle.sbl_reports.specs.Block.{BlockLines, point}
 use Rattle.sbl_input.specs.Loading.{AllText}
 use Rattle.sbl_io.specs.inside.LineSteps.{StandFirst}
-use Rattle.sbl_io.specs.LinesOf.{AreWhole, without_carriage_return, max_line, onto_first, raw_lines}
+use Rattle.sbl_io.specs.LinesOf.{AreWhole, max_line, raw_lines}
 use Rattle.sbl_io.proofs.Bytes.{raw-feed, raw-other, raw-some}
 
 -- ---- the bytes after some lines
@@ -75,7 +77,7 @@ stand-rest : (bytes rest : List ℕ) (lines : List (List ℕ)) → StandFirst by
 stand-rest bytes rest lines p = by p.2
   where
     count : length lines ≡ length (raw_lines p.0)
-    count = ap length (sym p.3) ∙ length-map (raw_lines p.0) without_carriage_return
+    count = ap length (sym p.3) ∙ length-map (raw_lines p.0) strip_carriage_return
 
     by : AreWhole p.0 ⊎ (rest ≡ []) → drop_lines (length lines) bytes ≡ rest
     by (inl whole) = ap (λ (n : ℕ). drop_lines n bytes) count ∙ ap (λ (x : List ℕ). drop_lines (length (raw_lines p.0)) x) p.1 ∙ drop-whole p.0 rest whole

@@ -7,10 +7,12 @@ use Rattle.sbl_io.specs.HeldInput.{BeginsLong, GivesLine, Took, TookWhole}
 use Rattle.sbl_io.specs.inside.LineSteps.{NoFeed, StandFirst, TakesLine}
 use Rattle.sbl_io.specs.declared.lines.LineEnd.{LineEnd}
 use Rattle.sbl_io.specs.declared.lines.LineEnd.TheVariants.{Feed, Input, Beyond}
-use Rattle.sbl_io.specs.LinesOf.{AreWhole, without_carriage_return, lines_of, onto_first, raw_lines}
+use Rattle.sbl_io.specs.LinesOf.{AreWhole, lines_of, raw_lines}
 use Rattle.std.proofs.lemmas.Bool.{ne_eqb}
 use Rattle.std.proofs.lemmas.List.{append-nil, drop-drop, drop-take, map-append, take-append-drop}
 use Rattle.std.proofs.KnownBytes.{Consumes-nil, Consumes-trans, prepend_known-nil}
+use Rattle.std.specs.List.{onto_first}
+use Rattle.std.specs.Str.Lines.{strip_carriage_return}
 
 pub empty_range : (xs : List ℕ) (a b : ℕ) → a ≡ b → slice_range xs a b ≡ []
 empty_range xs a b e = let none : b - a ≡ 0 = omega arith in rw none refl
@@ -123,7 +125,7 @@ raw-append (b ∷ c ∷ prefix) rest whole = by (raw-append (c ∷ prefix) rest 
         ∙ sym (ap (λ (ls : List (List ℕ)). ls ++ raw_lines rest) (raw-other b (c ∷ prefix) e))
 
 pub lines-append : (prefix rest : List ℕ) → AreWhole prefix → lines_of (prefix ++ rest) ≡ lines_of prefix ++ lines_of rest
-lines-append prefix rest whole = ap (map without_carriage_return) (raw-append prefix rest whole) ∙ map-append without_carriage_return (raw_lines prefix) (raw_lines rest)
+lines-append prefix rest whole = ap (map strip_carriage_return) (raw-append prefix rest whole) ∙ map-append strip_carriage_return (raw_lines prefix) (raw_lines rest)
 
 whole-append : (prefix more : List ℕ) → AreWhole prefix → AreWhole more → AreWhole (prefix ++ more)
 whole-append [] more w v = v
@@ -137,7 +139,7 @@ whole-feed (b ∷ []) = refl
 whole-feed (b ∷ c ∷ line) = whole-feed (c ∷ line)
 
 pub none_of : lines_of [] ≡ []
-none_of = ap (map without_carriage_return) no_lines
+none_of = ap (map strip_carriage_return) no_lines
 
 both_none : (xs ys : List ℕ) → xs ++ ys ≡ [] → (xs ≡ []) × (ys ≡ [])
 both_none [] ys e = (refl, e)
@@ -199,7 +201,7 @@ took-kept (Some xs) (Some ys) (Some zs) ls took keeps = subst (λ (x : List ℕ)
 
 -- a line that was taken is the first of the lines
 pub gives_line : (a b : Option (List ℕ)) (line : List ℕ) (end : LineEnd) → TakesLine a b line end → NoFeed line
-    → (end ≢ Beyond) → (end ≡ Input → line ≢ []) → GivesLine a b (without_carriage_return line)
+    → (end ≢ Beyond) → (end ≡ Input → line ≢ []) → GivesLine a b (strip_carriage_return line)
 gives_line None b line end takes free within some = tt
 gives_line (Some xs) None line Feed takes free within some = absurd takes
 gives_line (Some xs) None line Input takes free within some = absurd takes.0
@@ -208,14 +210,14 @@ gives_line (Some xs) (Some ys) line Feed takes free within some = (
   line ++ 10 ∷ [],
   takes,
   inl (whole-feed line),
-  ap (map without_carriage_return) (lines-feed line [] free ∙ ap (λ (ls : List (List ℕ)). line ∷ ls) no_lines),
+  ap (map strip_carriage_return) (lines-feed line [] free ∙ ap (λ (ls : List (List ℕ)). line ∷ ls) no_lines),
 )
 gives_line (Some xs) (Some ys) [] Input takes free within some = absurd (some refl refl)
 gives_line (Some xs) (Some ys) (c ∷ line) Input takes free within some = (
   c ∷ line,
   takes.0,
   inr takes.1,
-  ap (map without_carriage_return) (lines-last c line free),
+  ap (map strip_carriage_return) (lines-last c line free),
 )
 
 -- a line that a line feed ended is whole
@@ -246,10 +248,10 @@ begins-with (b ∷ c ∷ prefix) rest free some =
     let tail = begins-with (c ∷ prefix) rest free.1 (λ e. cc) in
     (tail.0, tail.1, rw (other, tail.2) refl)
 
-chomped-length : (line : List ℕ) → length line ≤ length (without_carriage_return line) + 1
+chomped-length : (line : List ℕ) → length line ≤ length (strip_carriage_return line) + 1
 chomped-length line = by (slice_index_or line (length line - 1) 0 == 13) refl
   where
-    by : (b : Bool) → (slice_index_or line (length line - 1) 0 == 13) ≡ b → length line ≤ length (without_carriage_return line) + 1
+    by : (b : Bool) → (slice_index_or line (length line - 1) 0 == 13) ≡ b → length line ≤ length (strip_carriage_return line) + 1
     by true e = rw e (rw length-take (omega arith))
     by false e = rw e (omega arith)
 
@@ -265,7 +267,7 @@ begins_long (Some xs) (Some ys) line takes free =
     let whole = begins-with prefix ys (no_feed_push line takes.1 free takes.2) (λ e. absurd (ends_in line takes.1 e)) in
     let long : 65537 < length prefix = rw (length-append, takes.0) (lit< tt) in
     let least : length prefix ≤ length (prefix ++ whole.0) = longer prefix whole.0 in
-    (without_carriage_return (prefix ++ whole.0), map without_carriage_return whole.1, ap (map without_carriage_return) (ap raw_lines takes.3 ∙ whole.2), omega (arith, chomped-length (prefix ++ whole.0)))
+    (strip_carriage_return (prefix ++ whole.0), map strip_carriage_return whole.1, ap (map strip_carriage_return) (ap raw_lines takes.3 ∙ whole.2), omega (arith, chomped-length (prefix ++ whole.0)))
   where
     ends_in : (line : List ℕ) (b : ℕ) → line ++ b ∷ [] ≡ [] → ⊥
     ends_in [] b e = cc

@@ -1,7 +1,8 @@
 //! The lines of a reader, in buffers of fixed size.
 ghost use Rattle.std.specs.Prelude.{◌≡◌, ◌≢◌, ◌+◌, ◌≤◌, ◌<◌, ◌⊎◌, [], ℕ, List, Option, vec_len, vec_capacity, OnOk, OnErr, IfOk, IfErr, MatchOption, Some, None, Ok, Err, true, false, length, min, slice_index, IsSome};
 ghost use Rattle.std.specs.Io.KnownBytes.{Consumes, IsAtEnd, Keeps};
-ghost use Rattle.sbl_io.specs.LinesOf.{without_carriage_return, max_line};
+ghost use Rattle.std.specs.Str.Lines.{strip_carriage_return};
+ghost use Rattle.sbl_io.specs.LinesOf.{max_line};
 
 use crate::devices::{MAX_TRIES, Source, Stop};
 use crate::faults::LineFault;
@@ -308,7 +309,7 @@ impl<R: Source + Drop> Lines<R> {
 
 /// Removes one carriage return at the end of the line.
 fn chomp(line: &mut Vec<u8>)
-    ensures items { line.new.items ≡ without_carriage_return line.old.items }
+    ensures items { line.new.items ≡ strip_carriage_return line.old.items }
     ensures capacity { vec_capacity line.new ≡ vec_capacity line.old }
 {
     if line.last() == Some(&b'\r') {

@@ -1,7 +1,8 @@
 //! The lines of a text in memory.
 ghost use Rattle.std.specs.Prelude.{◌≡◌, ◌≤◌, ◌<◌, MatchOption, [], ◌∷◌, length, take, slice_index};
+ghost use Rattle.std.specs.Str.Lines.{strip_carriage_return};
 ghost use Rattle.sbl_io.specs.inside.LineSteps.{NoFeed};
-ghost use Rattle.sbl_io.specs.LinesOf.{without_carriage_return, lines_of};
+ghost use Rattle.sbl_io.specs.LinesOf.{lines_of};
 
 /// Returns the index of the first line feed, or the number of bytes if there is none.
 pub(crate) fn first_feed(bytes: &[u8]) -> usize
@@ -19,7 +20,7 @@ pub(crate) fn first_feed(bytes: &[u8]) -> usize
 
 /// Returns the line without a carriage return at its end.
 fn without_return(line: &[u8]) -> &[u8]
-    ensures { result.now ≡ without_carriage_return line.now }
+    ensures { result.now ≡ strip_carriage_return line.now }
 {
     match line.split_last() {
         Some((b'\r', prefix)) => prefix,

@@ -7,8 +7,9 @@ use Rattle.std.specs.Char.{encode_utf8}
 use Rattle.std.proofs.lemmas.Bool.{and_parts, or_parts}
 use Rattle.std.proofs.lemmas.List.{append-nil, append_assoc, get_or-append_right, length-append, length-map}
 use Rattle.std.proofs.lemmas.Str.{IsUtf8-from_is_utf8, NoCharPasses-byte, chars-encodes, inside_one, is_utf8-from_IsUtf8, length-encode, length-le-encodes}
+use Rattle.std.specs.Str.Lines.{strip_carriage_return}
 use Rattle.sbl_io.specs.inside.LineSteps.{NoFeed}
-use Rattle.sbl_io.specs.LinesOf.{lines_of, without_carriage_return}
+use Rattle.sbl_io.specs.LinesOf.{lines_of}
 use Rattle.sbl_io.proofs.Bytes.{lines-feed, no_lines}
 use Rattle.sbl_rows.specs.Changes.{changes_of}
 use Rattle.sbl_rows.specs.ChangesAreSound.{EqualListsHaveNoChanges}
@@ -74,7 +75,7 @@ ends_by_char (c ∷ d ∷ stem) e =
     ∙ ap (λ (i : ℕ). get_or rest i 0) (omega arith) in
     ap (λ (b : ℕ). b == 13) at ∙ ends_by_char (d ∷ stem) (sym (ends_later c d stem) ∙ e)
 
-whole : (bytes : List ℕ) → ends bytes ≡ false → without_carriage_return bytes ≡ bytes
+whole : (bytes : List ℕ) → ends bytes ≡ false → strip_carriage_return bytes ≡ bytes
 whole bytes e = rw e refl
 
 -- ---- the lines
@@ -90,7 +91,7 @@ line_read (Stem stem) rest e =
     let none : list_any (λ c. c == 10) stem ≡ false = turned (list_any (λ c. c == 10) stem) p.0 in
     let other : ends stem ≡ false = turned (ends stem) p.1 in
     ap (λ (bytes : List ℕ). lines_of bytes) (append_assoc (encode_utf8_all stem) (10 ∷ []) rest)
-    ∙ ap (map without_carriage_return) (lines-feed (encode_utf8_all stem) rest (no_feed stem none))
+    ∙ ap (map strip_carriage_return) (lines-feed (encode_utf8_all stem) rest (no_feed stem none))
     ∙ ap (λ (line : List ℕ). line ∷ lines_of rest) (whole (encode_utf8_all stem) (ends_by_char stem other))
   where
     turned : (b : Bool) → not b ≡ true → b ≡ false
@@ -98,7 +99,7 @@ line_read (Stem stem) rest e =
     turned false h = refl
 
 lines_written : (rows : List Row) → have_lines rows ≡ true → lines_of (flat_map (λ r. stem_line r.outcome) rows) ≡ map (λ r. bytes_of r.outcome) rows
-lines_written [] e = ap (map without_carriage_return) no_lines
+lines_written [] e = ap (map strip_carriage_return) no_lines
 lines_written (r ∷ rows) e =
     let p = and_parts (has_line r.outcome) (have_lines rows) e in
     line_read r.outcome (flat_map (λ r. stem_line r.outcome) rows) p.0

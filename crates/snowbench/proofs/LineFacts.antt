@@ -2,8 +2,10 @@
 use Rattle.std.proofs.Common.{◌≡◌, ◌≢◌, ◌∙◌, ◌++◌, ◌==◌, ◌-◌, ℕ, suc, zero, Bool, true, false, List, [], ◌∷◌, refl, sym, ap, subst, map, length, take, length-append, append_assoc, slice_index_or, arith}
 use Rattle.std.proofs.lemmas.List.Concat.{flat_map-cons}
 use Rattle.std.specs.Prelude.{⊤, if◌then◌else◌}
+use Rattle.std.specs.List.{onto_first}
+use Rattle.std.specs.Str.Lines.{strip_carriage_return}
 use Rattle.sbl_io.specs.inside.LineSteps.{NoFeed}
-use Rattle.sbl_io.specs.LinesOf.{without_carriage_return, lines_of, onto_first, raw_lines}
+use Rattle.sbl_io.specs.LinesOf.{lines_of, raw_lines}
 use Rattle.sbl_io.proofs.Bytes.{lines-feed, no_feed_push, none_of, no_lines, raw-feed, raw-other}
 use Rattle.snowbench.specs.WholeCheck.{ListsAreRead, list_text}
 
@@ -31,14 +33,14 @@ free_take zero line h = tt
 free_take (suc n) [] h = tt
 free_take (suc n) (b ∷ line) h = (h.0, free_take n line h.1)
 
-free_chomped : (line : List ℕ) → NoFeed line → NoFeed (without_carriage_return line)
+free_chomped : (line : List ℕ) → NoFeed line → NoFeed (strip_carriage_return line)
 free_chomped line h = by (slice_index_or line (length line - 1) 0 == 13)
   where
     by : (t : Bool) → NoFeed (if t then take (length line - 1) line else line)
     by true = free_take (length line - 1) line h
     by false = h
 
-free_map : (lines : List (List ℕ)) → AreFree lines → AreFree (map without_carriage_return lines)
+free_map : (lines : List (List ℕ)) → AreFree lines → AreFree (map strip_carriage_return lines)
 free_map [] h = tt
 free_map (line ∷ lines) h = (free_chomped line h.0, free_map lines h.1)
 
@@ -56,7 +58,7 @@ prefix_is : (line : List ℕ) → take (length line) (line ++ 13 ∷ []) ≡ lin
 prefix_is [] = refl
 prefix_is (b ∷ line) = ap (λ (l : List ℕ). b ∷ l) (prefix_is line)
 
-chomped_is : (line : List ℕ) → without_carriage_return (line ++ 13 ∷ []) ≡ line
+chomped_is : (line : List ℕ) → strip_carriage_return (line ++ 13 ∷ []) ≡ line
 chomped_is line =
     let count : length (line ++ 13 ∷ []) - 1 ≡ length line = rw (length-append {A = ℕ} line (13 ∷ [])) (omega arith) in
     rw (count, last_is line) (prefix_is line)
@@ -67,7 +69,7 @@ append_line_end line more = append_assoc line (13 ∷ 10 ∷ []) more ∙ sym (a
 line_read : (line more : List ℕ) → NoFeed line → lines_of ((line ++ 13 ∷ 10 ∷ []) ++ more) ≡ line ∷ lines_of more
 line_read line more free =
     let other : 13 ≢ 10 = λ e. cc e in
-    ap lines_of (append_line_end line more) ∙ ap (map without_carriage_return) (lines-feed (line ++ 13 ∷ []) more (no_feed_push line 13 free other))
+    ap lines_of (append_line_end line more) ∙ ap (map strip_carriage_return) (lines-feed (line ++ 13 ∷ []) more (no_feed_push line 13 free other))
     ∙ ap (λ (l : List ℕ). l ∷ lines_of more) (chomped_is line)
 
 lines_read : (lines : List (List ℕ)) → AreFree lines → lines_of (list_text lines) ≡ lines

@@ -1,7 +1,8 @@
 use Rattle.std.proofs.Common.{rules, arith, ◌≡◌, ◌∙◌, ◌<◌, ◌+◌, ◌∷◌, ℕ, List, length, take, drop, sym, ap, subst}
 use Rattle.std.proofs.lemmas.List.{take_all}
+use Rattle.std.specs.Str.Lines.{strip_carriage_return}
 use Rattle.sbl_io.specs.inside.LineSteps.{NoFeed}
-use Rattle.sbl_io.specs.LinesOf.{without_carriage_return, lines_of}
+use Rattle.sbl_io.specs.LinesOf.{lines_of}
 use Rattle.sbl_io.proofs.TextFacts.{empty_text, lines_at_end, lines_at_feed, no_rest, no_text, rest_of}
 use Rattle.sbl_io.proofs.text_lines.first_line.Goals as goal
 
@@ -14,7 +15,7 @@ returns-then-end-text-clause-lines c =
     let end = c.first_feed-end.result in
     let all : take end text ≡ text = take_all end text (omega arith) in
     let some : 0 < length text = search rules in
-    let line : c.without_return-line.result.now ≡ without_carriage_return text = c.without_return-line.ensures ∙ ap without_carriage_return all in
+    let line : c.without_return-line.result.now ≡ strip_carriage_return text = c.without_return-line.ensures ∙ ap strip_carriage_return all in
     rw (no_rest end text c.if-end-text.true, no_text, line) (lines_at_end text some (subst NoFeed all c.first_feed-end.ensures.free))
 
 pub returns-clause-lines : goal.returns-clause-lines

@@ -1,6 +1,6 @@
 use Rattle.std.proofs.Common.{rules, ap, sym, arith, length, vec_len, true, false, ◌≡◌, ◌≢◌, [], ◌∙◌}
+use Rattle.std.specs.Str.Lines.{strip_carriage_return}
 use Rattle.sbl_io.specs.HeldInput.{input_of, line_of, GivesLine}
-use Rattle.sbl_io.specs.LinesOf.{without_carriage_return}
 use Rattle.sbl_io.specs.declared.lines.LineEnd.TheVariants.{Input, Beyond}
 use Rattle.sbl_io.proofs.Bytes.{begins_long, gives_line, gives_long, takes_whole}
 use Rattle.sbl_io.proofs.lines.Lines.take_whole.Goals as goal
@@ -27,7 +27,7 @@ returns-then-len-gt-MAX_LINE-clause-long g c = λ _.
       | else-eq-via-then-eq+else-is_empty w ↦ λ _ empty. let none : vec_len c.take_line.new.self.line ≡ 0 = (search rules) ∙ ap length empty in grind (arith, none, w.is_empty.ensures, w.if-is_empty.false)
       | else-eq-via-else-eq w ↦ let other : c.in_ok-end.end ≢ Input = search rules in λ is _. absurd (other is)
     ] in
-    let gives : GivesLine (input_of g.R.Source.left c.args.self.now) (input_of g.R.Source.left c.take_line.new.self) (without_carriage_return (line_of c.take_line.new.self)) =
+    let gives : GivesLine (input_of g.R.Source.left c.args.self.now) (input_of g.R.Source.left c.take_line.new.self) (strip_carriage_return (line_of c.take_line.new.self)) =
     gives_line _ _ (line_of c.take_line.new.self) c.in_ok-end.end c.in_ok-end.ensures.takes c.in_ok-end.ensures.no_feed within some in
     gives_long _ _ _ gives (rw (← c.chomp.ensures.items) (search rules))
 
