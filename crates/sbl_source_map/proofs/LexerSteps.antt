@@ -7,7 +7,8 @@ use Rattle.sbl_token.specs.declared.token.Value.{Value}
 use Rattle.sbl_token.specs.declared.words.Word.{Word}
 use Rattle.sbl_token.specs.declared.words.Word.TheVariants as words
 use Rattle.sbl_token.specs.Lexemes.{lexeme_by, word}
-use Rattle.sbl_text.specs.Directives.{Defining, Directives, after, defined_as, defined_by, start, value_for_macro}
+use Rattle.sbl_text.specs.Directives.{Defining, Directives, after, defined_as, start, value_for_macro}
+use Rattle.sbl_text.specs.inside.DirectiveParts.{defined_by}
 use Rattle.sbl_text.specs.Escapes.{InForce}
 use Rattle.sbl_text.specs.Tokens.{Advances, ArePlaced, IsNext, PlacedToken, Reading, Stops, beginning, placed_of}
 use Rattle.sbl_text.specs.declared.fault.ScriptFault.{ScriptFault}

@@ -20,8 +20,8 @@ use Rattle.sbl_text.specs.Pieces.{is_inner, Setting, NoPiece, Gap, AreGaps, Afte
 use Rattle.sbl_text.specs.inside.PieceParts.{setting}
 use Rattle.sbl_text.specs.Scan.{Piece_at}
 use Rattle.sbl_token.specs.Lexemes.{Lexeme, word, sign, name, number, literal, inserts, macro_name, lexeme_of, SaysFitting}
-use Rattle.sbl_text.specs.Directives.{Directives, Defining, setting_of, value_for, defined_by}
-use Rattle.sbl_text.specs.inside.DirectiveParts.{no_directive}
+use Rattle.sbl_text.specs.Directives.{Directives, Defining, setting_of, value_for}
+use Rattle.sbl_text.specs.inside.DirectiveParts.{no_directive, defined_by}
 use Rattle.sbl_text.specs.Tokens.{IsLexeme, MayEnd, IsRefused, fault_at, Stops, Comes}
 use Rattle.sbl_text.specs.inside.TokenParts.{digits_value, word_or_name, LacksValue, pair_fault}
 

@@ -51,16 +51,13 @@ with_coding d k = option_and_then (λ m. if sameb codings.the_type m.coding codi
 abbrev pub defined_as : InForce → List ℕ → Option (List ℕ) → InForce
 defined_as e n value = option_map_or (λ v. with_macro e n v) value e
 
-abbrev pub defined_by : InForce → Option Defining → List ℕ → InForce
-defined_by e d v = option_map_or (λ m. defined_as e m.name (value_for_macro m.coding v)) d e
-
 -- the state after a token: some words require insert characters or a macro's name next; a literal may define a macro
 abbrev pub after : Directives → Lexeme → Directives
 after s (word reserved.StringEscapes) = record { escapes = s.escapes; wanted = wanted.Inserts; defining = None }
 after s (word reserved.StringDef) = record { escapes = s.escapes; wanted = wanted.MacroName; defining = None }
 after s (word reserved.Hex) = record { escapes = s.escapes; wanted = wanted.Token; defining = with_coding s.defining coding.Hex }
 after s (word reserved.Decimal) = record { escapes = s.escapes; wanted = wanted.Token; defining = with_coding s.defining coding.Decimal }
-after s (literal spelling v) = start_under (defined_by s.escapes s.defining v)
+after s (literal spelling v) = start_under (option_map_or (λ m. defined_as s.escapes m.name (value_for_macro m.coding v)) s.defining s.escapes)
 after s (inserts a b) = start_under (with_inserts s.escapes a b)
 after s (macro_name n) = record { escapes = s.escapes; wanted = wanted.Token; defining = Some (record { name = chars n; coding = coding.Plain }) }
 after s _ = start_under s.escapes
