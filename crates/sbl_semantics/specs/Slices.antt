@@ -16,13 +16,9 @@ abbrev pub set_end : Bool → State → State
 set_end true s = record s { bra = s.cursor }
 set_end false s = record s { ket = s.cursor }
 
--- bra <= ket <= limit
-abbrev pub is_slice : State → Bool
-is_slice s = nat_le s.bra s.ket && nat_le (s.ket + s.beyond) (length s.text)
-
--- ends in this way if bra..ket is a slice; otherwise stops as Slice
+-- ends in this way if bra..ket is a slice, that is, bra <= ket <= limit; otherwise stops as Slice
 abbrev pub on_slice : State → Ending → Ending
-on_slice s e = if is_slice s then e else Stops Slice s
+on_slice s e = if nat_le s.bra s.ket && nat_le (s.ket + s.beyond) (length s.text) then e else Stops Slice s
 
 -- where a cursor goes if bra..ket is replaced by n characters
 abbrev pub cursor_after_splice : ℕ → ℕ → ℕ → ℕ → ℕ
@@ -69,6 +65,10 @@ put_in right string s =
     else Stops Cursor s
 
 -- ---- names for parts of these definitions, which the interpreter and proofs use
+
+-- bra <= ket <= limit
+abbrev pub is_slice : State → Bool
+is_slice s = nat_le s.bra s.ket && nat_le (s.ket + s.beyond) (length s.text)
 
 abbrev pub left_bracket : Mode → State → State
 left_bracket m s = set_end (is_forward m) s
