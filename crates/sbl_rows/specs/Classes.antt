@@ -10,6 +10,7 @@ use Rattle.std.specs.Borrow.{Bor}
 use Rattle.std.specs.declared.vec.Vec.{Vec}
 use Rattle.std.specs.declared.alloc.Global.{Global}
 use Rattle.std.specs.BTreeSet.{insert_key}
+use Rattle.sbl_ast.specs.Folds.{foldr}
 use Rattle.sbl_semantics.specs.Outcome.{Outcome', Stem, Refused}
 use Rattle.sbl_rows.specs.Rows.{Row}
 use Rattle.sbl_rows.specs.declared.class.Class as declared
@@ -25,8 +26,7 @@ Pair = List ℕ × List ℕ
 
 -- the texts in code point order, a prefix first, without repeats
 abbrev pub in_order : List (List ℕ) → List (List ℕ)
-in_order [] = []
-in_order (text ∷ texts) = insert_key (slice_cmp nat_cmp) (in_order texts) text
+in_order texts = foldr (λ text others. insert_key (slice_cmp nat_cmp) others text) [] texts
 
 -- the members of the class of a stem, as they come
 abbrev pub members_of : List ℕ → List Pair → List (List ℕ)
@@ -54,8 +54,7 @@ is_stem stem (Refused f) = false
 
 -- a word with its stem, if it has one
 abbrev pub pair_of : List ℕ → Outcome' → Option Pair
-pair_of word (Stem stem) = Some (stem, word)
-pair_of word (Refused f) = None
+pair_of word outcome = option_map (λ stem. (stem, word)) (stem_of outcome)
 
 -- the words that have a stem, each with it
 abbrev pub stem_pairs : List Row → List Pair
