@@ -23,8 +23,7 @@ use Rattle.sbl_bench.specs.declared.fault.EditFault.TheVariants as fault
 -- A word is added or removed; the vocabulary becomes that of these words; a text replaces a part of the script; these bytes replace
 -- the whole script; the limit of steps is set.
 pub data Edit : Type 0 where
-  Add : List ℕ → Edit
-  Remove : List ℕ → Edit
+  Add Remove : List ℕ → Edit
   Words : List (List ℕ) → Edit
   Replace : ScriptEdit → List ℕ → Edit
   Whole : List ℕ → Edit

@@ -25,14 +25,12 @@ pub data Notice : Type 0 where
   declares : DeclarationKind → List ℕ → Notice
   defines_routine defines_grouping : List ℕ → Notice
   uses : Use → List ℕ → Notice
-  substring : Notice
   -- an among: whether it has a starter, whether it has no string
   among : Bool → Bool → Notice
   -- a string of an among: the number of the among in its item, and the characters of the string
   string : ℕ → List ℕ → Notice
-  backwards : Notice
-  -- the end of a routine's body, or of the parentheses of a group or a starter
-  region_end : Notice
+  -- `region_end` is the end of a routine's body, or of the parentheses of a group or a starter
+  substring backwards region_end : Notice
 
 pub record Occurrence : Type 0 where
   pub site : Site

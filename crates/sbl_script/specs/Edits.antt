@@ -26,12 +26,11 @@ use Rattle.sbl_script.specs.Reading.{HasTokens, IsFaultIn, first_left_out, lexem
 
 -- ---- what an edit may replace
 
--- the body of the routine with this name; the among with this number in that body, counted from 1 in the order of the
--- words `among`; the terms of the grouping with this name
+-- the body of the routine with this name, or the terms of the grouping with this name; the among with this number in the routine with
+-- this name, counted from 1 in the order of the words `among`
 pub data ScriptEdit : Type 0 where
-  body : List ℕ → ScriptEdit
+  body terms : List ℕ → ScriptEdit
   among : List ℕ → ℕ → ScriptEdit
-  terms : List ℕ → ScriptEdit
 
 -- ---- the definition that changes
 

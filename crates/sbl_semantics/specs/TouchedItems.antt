@@ -21,9 +21,8 @@ use Rattle.sbl_ast.specs.Source.{Source}
 -- a routine or a grouping by its name; an among by its routine and its number there, counted from 1 in the order of the
 -- words `among`
 pub data Item' : Type 0 where
-  Routine : List ℕ → Item'
+  Routine Grouping : List ℕ → Item'
   Among : List ℕ → ℕ → Item'
-  Grouping : List ℕ → Item'
 
 -- the item that the code's value represents
 abbrev pub item_of : Item → Item'

@@ -37,8 +37,7 @@ edit_text (Some f) = with_line_feed (codes "no " ++ (number_and_name f).0 ++ 32 
 -- The memory that a request gets: enough for all of it; too little for its name or its block; or too little for its edit or its
 -- report, after this many of the runs that the edit needs.
 pub data Memory : Type 0 where
-  Enough : Memory
-  BlockRefused : Memory
+  Enough BlockRefused : Memory
   RefusedAfter : ℕ → Memory
 
 -- Nothing is changed, and this is written.

@@ -17,11 +17,10 @@ use Rattle.sbl_token.specs.declared.token.Token.{Token}
 pub data Lexeme : Type 0 where
   word : Word → Lexeme
   sign : Sign → Lexeme
-  name : List ℕ → Lexeme
+  name macro_name : List ℕ → Lexeme
   number : ℕ → Lexeme
   literal : List ℕ → List ℕ → Lexeme
   inserts : ℕ → ℕ → Lexeme
-  macro_name : List ℕ → Lexeme
 
 -- whether two tokens are the same but for their positions
 abbrev pub same_lexeme : Lexeme → Lexeme → Bool
