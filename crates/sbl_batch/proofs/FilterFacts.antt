@@ -12,7 +12,7 @@ use Rattle.sbl_batch.proofs.RowFacts.{filtered-empty, filtered-one}
 use Rattle.sbl_io.proofs.Bytes.{took-kept, took-none, took-trans}
 use Rattle.sbl_io.specs.Faults.{serve_fault_of}
 use Rattle.sbl_io.specs.Devices.{HasStopped, Tally, WritesInTime}
-use Rattle.sbl_io.specs.HeldInput.{BeginsLong, BreaksOff, GivesLine, HasCause, Took, fault_of, reads_bound}
+use Rattle.sbl_io.specs.HeldInput.{BeginsLong, BreaksOff, GivesLine, HasCause, Took, reads_bound}
 use Rattle.sbl_io.specs.declared.lines.Lines.{Lines}
 use Rattle.sbl_io.specs.declared.faults.LineFault.{LineFault}
 use Rattle.sbl_io.specs.declared.faults.LineFault.TheVariants as line
@@ -293,11 +293,11 @@ cause-before tally first last next read bound (inr (inl most)) = inr (inl (subst
 cause-before tally first last next read bound (inr (inr tries)) = inr (inr tries)
 
 pub reason-before : {R : Type 0} (tally : R → Tally) (first last next : Lines R) (f : LineFault)
-    → (f ≡ line.Read → HasCause tally last next ⊎ (fault_of last ≡ Some f)) → (tally last.reader).failures ≡ (tally first.reader).failures
-    → reads_bound tally last ≡ reads_bound tally first → fault_of last ≡ fault_of first → HasReason tally first next (Input (serve_fault_of f))
+    → (f ≡ line.Read → HasCause tally last next ⊎ (last.fault ≡ Some f)) → (tally last.reader).failures ≡ (tally first.reader).failures
+    → reads_bound tally last ≡ reads_bound tally first → last.fault ≡ first.fault → HasReason tally first next (Input (serve_fault_of f))
 reason-before tally first last next line.Read why read bound same = λ _. by (why refl)
   where
-    by : HasCause tally last next ⊎ (fault_of last ≡ Some line.Read) → HasCause tally first next ⊎ (fault_of first ≡ Some line.Read)
+    by : HasCause tally last next ⊎ (last.fault ≡ Some line.Read) → HasCause tally first next ⊎ (first.fault ≡ Some line.Read)
     by (inl cause) = inl (cause-before tally first last next read bound cause)
     by (inr is) = inr (sym same ∙ is)
 reason-before tally first last next line.TooLong why read bound same = λ is. cc is

@@ -5,7 +5,7 @@ ghost use Rattle.sbl_batch.specs.Filter.{Filters, IsFiltered, RepeatsFault};
 ghost use Rattle.sbl_batch.specs.HeldRows.{PushesRow, ReadsWordsOf};
 ghost use Rattle.sbl_batch.specs.LineWriter.{IsBetweenLines};
 ghost use Rattle.sbl_io.specs.Devices.{HasStopped, WritesInTime};
-ghost use Rattle.sbl_io.specs.HeldInput.{KeepsTime, fault_of, input_of, reads_bound};
+ghost use Rattle.sbl_io.specs.HeldInput.{KeepsTime, input_of, reads_bound};
 ghost use Rattle.sbl_machine.specs.MachineOf.{IsLinkedMachineOf};
 ghost use Rattle.sbl_ast.specs.Source.{Source};
 ghost use Rattle.sbl_script.specs.ParsedScript.{source_of};
@@ -106,8 +106,8 @@ fn read_words<R: Source + Drop, W: Sink>(
     requires made { (s : Source) × IsLinkedMachineOf machine.now s }
     requires between { IsBetweenLines rows.old.lines }
     requires none { rows.old.text.items ≡ [] }
-    ensures reads { (s : Source) → IsLinkedMachineOf machine.now s → fault_of lines.old ≡ None → ReadsWordsOf R.left W.held s lines.old lines.new writer.old writer.new rows.new.text.items result }
-    ensures remembered { fault_of lines.old ≡ None → fault_of lines.new ≡ left_by_load result }
+    ensures reads { (s : Source) → IsLinkedMachineOf machine.now s → lines.old.fault ≡ None → ReadsWordsOf R.left W.held s lines.old lines.new writer.old writer.new rows.new.text.items result }
+    ensures remembered { lines.old.fault ≡ None → lines.new.fault ≡ left_by_load result }
     ensures bound { reads_bound R.tally lines.new ≡ reads_bound R.tally lines.old }
     ensures steady { OnOk result (((R.tally lines.new.reader).failures ≡ (R.tally lines.old.reader).failures) × ((W.tally writer.new).failures ≡ (W.tally writer.old).failures)) }
     ensures later { (R.tally lines.old.reader).failures ≤ (R.tally lines.new.reader).failures }
@@ -138,8 +138,8 @@ fn filter_words<R: Source + Drop, W: Sink>(
     script: &Script,
     writer: &mut W,
 ) -> Result<(), LoadFault>
-    ensures filters { fault_of lines.old ≡ None → Filters (source_of script.now) (input_of R.left lines.old) (input_of R.left lines.new) (W.held writer.old) (W.held writer.new) result }
-    ensures remembered { fault_of lines.old ≡ None → fault_of lines.new ≡ left_by_load result }
+    ensures filters { lines.old.fault ≡ None → Filters (source_of script.now) (input_of R.left lines.old) (input_of R.left lines.new) (W.held writer.old) (W.held writer.new) result }
+    ensures remembered { lines.old.fault ≡ None → lines.new.fault ≡ left_by_load result }
     ensures bound { reads_bound R.tally lines.new ≡ reads_bound R.tally lines.old }
     ensures steady { OnOk result (((R.tally lines.new.reader).failures ≡ (R.tally lines.old.reader).failures) × ((W.tally writer.new).failures ≡ (W.tally writer.old).failures)) }
     ensures later { (R.tally lines.old.reader).failures ≤ (R.tally lines.new.reader).failures }
@@ -182,12 +182,12 @@ pub fn filter<R: Source + Drop, W: Sink>(
     external: &str,
     writer: &mut W,
 ) -> Result<(), LoadFault>
-    ensures filtered { fault_of lines.old ≡ None → IsFiltered (input_of R.left lines.old) (input_of R.left lines.new) external.now (W.held writer.old) (W.held writer.new) result }
+    ensures filtered { lines.old.fault ≡ None → IsFiltered (input_of R.left lines.old) (input_of R.left lines.new) external.now (W.held writer.old) (W.held writer.new) result }
     ensures steady { OnOk result (((R.tally lines.new.reader).failures ≡ (R.tally lines.old.reader).failures) × ((W.tally writer.new).failures ≡ (W.tally writer.old).failures)) }
     ensures why_read { IfErr result (λ fault. HasReason R.tally lines.old lines.new fault) }
     ensures why_write { IfErr result (λ fault. fault ≡ LoadFault.Input ServeFault.Write → HasStopped W.tally writer.old writer.new) }
-    ensures remembered { fault_of lines.new ≡ left_by_load result }
-    ensures again { RepeatsFault (fault_of lines.old) result (input_of R.left lines.old) (input_of R.left lines.new) (W.held writer.old) (W.held writer.new) }
+    ensures remembered { lines.new.fault ≡ left_by_load result }
+    ensures again { RepeatsFault lines.old.fault result (input_of R.left lines.old) (input_of R.left lines.new) (W.held writer.old) (W.held writer.new) }
     ensures bound { reads_bound R.tally lines.new ≡ reads_bound R.tally lines.old }
     ensures reads_in_time { KeepsTime R.tally lines.old lines.new }
     ensures writes_in_time { WritesInTime W.tally writer.old writer.new }

@@ -5,7 +5,7 @@ ghost use Rattle.sbl_batch.specs.HeldRows.{ReadsToEndOf};
 ghost use Rattle.sbl_batch.specs.LineWriter.{IsBetweenLines};
 ghost use Rattle.sbl_batch.specs.ToEnd.{FiltersToEnd, with_line, without_line};
 ghost use Rattle.sbl_io.specs.Devices.{HasStopped, WritesInTime};
-ghost use Rattle.sbl_io.specs.HeldInput.{KeepsTime, fault_of as fault, input_of as input, reads_bound};
+ghost use Rattle.sbl_io.specs.HeldInput.{KeepsTime, input_of as input, reads_bound};
 ghost use Rattle.sbl_machine.specs.MachineOf.{IsLinkedMachineOf};
 ghost use Rattle.sbl_script.specs.ParsedScript.{source_of};
 ghost use Rattle.sbl_input.specs.Faults.{left_by_load};
@@ -34,8 +34,8 @@ fn read_lines<R: Source + Drop, W: Sink>(
     requires made { (s : Source) × IsLinkedMachineOf machine.now s }
     requires between { IsBetweenLines rows.old.lines }
     requires none { rows.old.text.items ≡ [] }
-    ensures reads { (s : Source) → IsLinkedMachineOf machine.now s → fault lines.old ≡ None → ReadsToEndOf R.left W.held s lines.old lines.new writer.old writer.new rows.new.text.items line.new result }
-    ensures remembered { fault lines.old ≡ None → fault lines.new ≡ left_by_load result }
+    ensures reads { (s : Source) → IsLinkedMachineOf machine.now s → lines.old.fault ≡ None → ReadsToEndOf R.left W.held s lines.old lines.new writer.old writer.new rows.new.text.items line.new result }
+    ensures remembered { lines.old.fault ≡ None → lines.new.fault ≡ left_by_load result }
     ensures bound { reads_bound R.tally lines.new ≡ reads_bound R.tally lines.old }
     ensures steady { OnOk result (((R.tally lines.new.reader).failures ≡ (R.tally lines.old.reader).failures) × ((W.tally writer.new).failures ≡ (W.tally writer.old).failures)) }
     ensures later_write { (W.tally writer.old).failures ≤ (W.tally writer.new).failures }
@@ -65,8 +65,8 @@ fn filter_lines<R: Source + Drop, W: Sink>(
     line: &mut u64,
 ) -> Result<(), LoadFault>
     requires { line.old ≡ 1 }
-    ensures filters { fault lines.old ≡ None → FiltersToEnd (source_of script.now) (input R.left lines.old) (input R.left lines.new) (W.held writer.old) (W.held writer.new) (with_line line.new result) }
-    ensures remembered { fault lines.old ≡ None → fault lines.new ≡ left_by_load result }
+    ensures filters { lines.old.fault ≡ None → FiltersToEnd (source_of script.now) (input R.left lines.old) (input R.left lines.new) (W.held writer.old) (W.held writer.new) (with_line line.new result) }
+    ensures remembered { lines.old.fault ≡ None → lines.new.fault ≡ left_by_load result }
     ensures bound { reads_bound R.tally lines.new ≡ reads_bound R.tally lines.old }
     ensures steady { OnOk result (((R.tally lines.new.reader).failures ≡ (R.tally lines.old.reader).failures) × ((W.tally writer.new).failures ≡ (W.tally writer.old).failures)) }
     ensures why { IfErr result (λ f. HasReason R.tally lines.old lines.new f) }
@@ -104,8 +104,8 @@ pub fn filter_to_end<R: Source + Drop, W: Sink>(
     script: &Script,
     writer: &mut W,
 ) -> Result<(), WordFault>
-    ensures filters { fault lines.old ≡ None → FiltersToEnd (source_of script.now) (input R.left lines.old) (input R.left lines.new) (W.held writer.old) (W.held writer.new) result }
-    ensures remembered { fault lines.old ≡ None → fault lines.new ≡ left_by_load (without_line result) }
+    ensures filters { lines.old.fault ≡ None → FiltersToEnd (source_of script.now) (input R.left lines.old) (input R.left lines.new) (W.held writer.old) (W.held writer.new) result }
+    ensures remembered { lines.old.fault ≡ None → lines.new.fault ≡ left_by_load (without_line result) }
     ensures bound { reads_bound R.tally lines.new ≡ reads_bound R.tally lines.old }
     ensures steady { OnOk result (((R.tally lines.new.reader).failures ≡ (R.tally lines.old.reader).failures) × ((W.tally writer.new).failures ≡ (W.tally writer.old).failures)) }
     ensures why { IfErr result (λ e. HasReason R.tally lines.old lines.new e.fault) }

@@ -13,7 +13,7 @@ use Rattle.sbl_text.specs.declared.fault.ScriptFault.{ScriptFault}
 use Rattle.sbl_text.specs.declared.fault.ScriptFault.TheVariants as script
 use Rattle.sbl_reports.specs.Block.{BlockLines, Breaks, TookBlock, made_text, max_script, point}
 use Rattle.sbl_io.specs.Devices.{Tally}
-use Rattle.sbl_io.specs.HeldInput.{HasCause, Took, fault_of}
+use Rattle.sbl_io.specs.HeldInput.{HasCause, Took}
 use Rattle.sbl_io.specs.LinesOf.{max_line}
 use Rattle.sbl_io.specs.declared.lines.Lines.{Lines}
 use Rattle.sbl_io.specs.declared.faults.LineFault.TheVariants as line
@@ -94,7 +94,7 @@ IsLoaded old new external state (Err f) = IsLoadFault old new external f
 
 -- a fault of reading is caused by the reader or a bound, or the lines returned it before
 abbrev pub HasReason : {R : Type 0} → (R → Tally) → Lines R → Lines R → LoadFault → Type 0
-HasReason tally lines new_lines f = f ≡ Input fault.Read → HasCause tally lines new_lines ⊎ (fault_of lines ≡ Some line.Read)
+HasReason tally lines new_lines f = f ≡ Input fault.Read → HasCause tally lines new_lines ⊎ (lines.fault ≡ Some line.Read)
 
 -- ---- names for proofs
 

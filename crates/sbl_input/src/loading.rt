@@ -11,7 +11,7 @@ ghost use Rattle.std.specs.Io.KnownBytes.{Keeps};
 ghost use Rattle.sbl_io.specs.Faults.{serve_fault_of};
 ghost use Rattle.sbl_input.specs.Faults.{left_by_load};
 ghost use Rattle.sbl_io.specs.declared.faults.LineFault.{LineFault};
-ghost use Rattle.sbl_io.specs.HeldInput.{KeepsTime, fault_of, input_of, reads_bound};
+ghost use Rattle.sbl_io.specs.HeldInput.{KeepsTime, input_of, reads_bound};
 ghost use Rattle.sbl_input.specs.Loading.{HasReason, IsLoaded, ReadsScript};
 
 use crate::faults::LoadFault;
@@ -32,10 +32,10 @@ use std::alloc::Global;
 /// two faults, return them again, and then read nothing. After the whole block was read, returns `ScriptTooLong` exactly if its text
 /// is too long, whatever memory there was, or `OutOfMemory` if it is not and an allocation failed.
 pub fn read_script<R: Source + Drop>(lines: &mut Lines<R>) -> Result<Vec<u8>, LoadFault>
-    ensures reads { fault_of lines.old ≡ None → ReadsScript (input_of R.left lines.old) (input_of R.left lines.new) result }
-    ensures ready { OnOk result (fault_of lines.old ≡ None) }
-    ensures remembered { fault_of lines.new ≡ left_by_load result }
-    ensures again { (fault : LineFault) → fault_of lines.old ≡ Some fault → (result ≡ Err (LoadFault.Input (serve_fault_of fault))) × Keeps (input_of R.left lines.old) (input_of R.left lines.new) }
+    ensures reads { lines.old.fault ≡ None → ReadsScript (input_of R.left lines.old) (input_of R.left lines.new) result }
+    ensures ready { OnOk result (lines.old.fault ≡ None) }
+    ensures remembered { lines.new.fault ≡ left_by_load result }
+    ensures again { (fault : LineFault) → lines.old.fault ≡ Some fault → (result ≡ Err (LoadFault.Input (serve_fault_of fault))) × Keeps (input_of R.left lines.old) (input_of R.left lines.new) }
     ensures later { (R.tally lines.old.reader).failures ≤ (R.tally lines.new.reader).failures }
     ensures bound { reads_bound R.tally lines.new ≡ reads_bound R.tally lines.old }
     ensures steady { OnOk result ((R.tally lines.new.reader).failures ≡ (R.tally lines.old.reader).failures) }
@@ -83,8 +83,8 @@ fn ascii_characters(alloc: Global, line: &[u8]) -> Result<Vec<char>, LoadFault>
 
 /// Reads the words, up to a line `.` or the end of input. Keeps only those that decide how a bench opens.
 fn read_words<R: Source + Drop>(lines: &mut Lines<R>, keys: WordKeys) -> Result<WordList, LoadFault>
-    ensures reads { fault_of lines.old ≡ None → ReadsWords (input_of R.left lines.old) (input_of R.left lines.new) result }
-    ensures remembered { fault_of lines.new ≡ left_by_load result }
+    ensures reads { lines.old.fault ≡ None → ReadsWords (input_of R.left lines.old) (input_of R.left lines.new) result }
+    ensures remembered { lines.new.fault ≡ left_by_load result }
     ensures later { (R.tally lines.old.reader).failures ≤ (R.tally lines.new.reader).failures }
     ensures bound { reads_bound R.tally lines.new ≡ reads_bound R.tally lines.old }
     ensures steady { OnOk result ((R.tally lines.new.reader).failures ≡ (R.tally lines.old.reader).failures) }
@@ -114,12 +114,12 @@ fn read_input<R: Source + Drop>(
     keys: WordKeys,
     external: &str,
 ) -> Result<ParsedInput, LoadFault>
-    ensures reads { fault_of lines.old ≡ None → ReadsInput (input_of R.left lines.old) (input_of R.left lines.new) external.now result }
+    ensures reads { lines.old.fault ≡ None → ReadsInput (input_of R.left lines.old) (input_of R.left lines.new) external.now result }
     ensures bound { reads_bound R.tally lines.new ≡ reads_bound R.tally lines.old }
     ensures later { (R.tally lines.old.reader).failures ≤ (R.tally lines.new.reader).failures }
-    ensures again { (fault : LineFault) → fault_of lines.old ≡ Some fault → (result ≡ Err (LoadFault.Input (serve_fault_of fault))) × Keeps (input_of R.left lines.old) (input_of R.left lines.new) }
+    ensures again { (fault : LineFault) → lines.old.fault ≡ Some fault → (result ≡ Err (LoadFault.Input (serve_fault_of fault))) × Keeps (input_of R.left lines.old) (input_of R.left lines.new) }
     ensures steady { OnOk result ((R.tally lines.new.reader).failures ≡ (R.tally lines.old.reader).failures) }
-    ensures remembered { fault_of lines.new ≡ left_by_load result }
+    ensures remembered { lines.new.fault ≡ left_by_load result }
     ensures why { IfErr result (λ fault. HasReason R.tally lines.old lines.new fault) }
     ensures in_time { KeepsTime R.tally lines.old lines.new }
 {
@@ -173,13 +173,13 @@ fn open_words<P: Progress>(
 /// `NotText`, it is the one after the line that is not UTF-8. The lines keep `Read` and `LineTooLong` and return them again,
 /// and so does every later `load`, which then reads nothing.
 pub fn load<R: Source + Drop>(lines: &mut Lines<R>, external: &str) -> Result<Bench, LoadFault>
-    ensures loaded { fault_of lines.old ≡ None → IsLoaded (input_of R.left lines.old) (input_of R.left lines.new) external.now (λ b. contents_of b) result }
+    ensures loaded { lines.old.fault ≡ None → IsLoaded (input_of R.left lines.old) (input_of R.left lines.new) external.now (λ b. contents_of b) result }
     ensures later { (R.tally lines.old.reader).failures ≤ (R.tally lines.new.reader).failures }
     ensures steady { OnOk result ((R.tally lines.new.reader).failures ≡ (R.tally lines.old.reader).failures) }
     ensures why { IfErr result (λ fault. HasReason R.tally lines.old lines.new fault) }
     ensures in_time { KeepsTime R.tally lines.old lines.new }
-    ensures remembered { fault_of lines.new ≡ left_by_load result }
-    ensures again { (fault : LineFault) → fault_of lines.old ≡ Some fault → (result ≡ Err (LoadFault.Input (serve_fault_of fault))) × Keeps (input_of R.left lines.old) (input_of R.left lines.new) }
+    ensures remembered { lines.new.fault ≡ left_by_load result }
+    ensures again { (fault : LineFault) → lines.old.fault ≡ Some fault → (result ≡ Err (LoadFault.Input (serve_fault_of fault))) × Keeps (input_of R.left lines.old) (input_of R.left lines.new) }
     ensures bound { reads_bound R.tally lines.new ≡ reads_bound R.tally lines.old }
 {
     load_with_keys(lines, WordKeys::constant(), external)
@@ -192,13 +192,13 @@ pub fn load_with_keys<R: Source + Drop>(
     keys: WordKeys,
     external: &str,
 ) -> Result<Bench, LoadFault>
-    ensures loaded { fault_of lines.old ≡ None → IsLoaded (input_of R.left lines.old) (input_of R.left lines.new) external.now (λ b. contents_of b) result }
+    ensures loaded { lines.old.fault ≡ None → IsLoaded (input_of R.left lines.old) (input_of R.left lines.new) external.now (λ b. contents_of b) result }
     ensures later { (R.tally lines.old.reader).failures ≤ (R.tally lines.new.reader).failures }
     ensures steady { OnOk result ((R.tally lines.new.reader).failures ≡ (R.tally lines.old.reader).failures) }
     ensures why { IfErr result (λ fault. HasReason R.tally lines.old lines.new fault) }
     ensures in_time { KeepsTime R.tally lines.old lines.new }
-    ensures remembered { fault_of lines.new ≡ left_by_load result }
-    ensures again { (fault : LineFault) → fault_of lines.old ≡ Some fault → (result ≡ Err (LoadFault.Input (serve_fault_of fault))) × Keeps (input_of R.left lines.old) (input_of R.left lines.new) }
+    ensures remembered { lines.new.fault ≡ left_by_load result }
+    ensures again { (fault : LineFault) → lines.old.fault ≡ Some fault → (result ≡ Err (LoadFault.Input (serve_fault_of fault))) × Keeps (input_of R.left lines.old) (input_of R.left lines.new) }
     ensures bound { reads_bound R.tally lines.new ≡ reads_bound R.tally lines.old }
 {
     load_observed(lines, keys, external, &mut NoProgress {})
@@ -212,13 +212,13 @@ pub fn load_observed<R: Source + Drop, P: Progress>(
     external: &str,
     progress: &mut P,
 ) -> Result<Bench, LoadFault>
-    ensures loaded { fault_of lines.old ≡ None → IsLoaded (input_of R.left lines.old) (input_of R.left lines.new) external.now (λ b. contents_of b) result }
+    ensures loaded { lines.old.fault ≡ None → IsLoaded (input_of R.left lines.old) (input_of R.left lines.new) external.now (λ b. contents_of b) result }
     ensures later { (R.tally lines.old.reader).failures ≤ (R.tally lines.new.reader).failures }
     ensures steady { OnOk result ((R.tally lines.new.reader).failures ≡ (R.tally lines.old.reader).failures) }
     ensures why { IfErr result (λ fault. HasReason R.tally lines.old lines.new fault) }
     ensures in_time { KeepsTime R.tally lines.old lines.new }
-    ensures remembered { fault_of lines.new ≡ left_by_load result }
-    ensures again { (fault : LineFault) → fault_of lines.old ≡ Some fault → (result ≡ Err (LoadFault.Input (serve_fault_of fault))) × Keeps (input_of R.left lines.old) (input_of R.left lines.new) }
+    ensures remembered { lines.new.fault ≡ left_by_load result }
+    ensures again { (fault : LineFault) → lines.old.fault ≡ Some fault → (result ≡ Err (LoadFault.Input (serve_fault_of fault))) × Keeps (input_of R.left lines.old) (input_of R.left lines.new) }
     ensures bound { reads_bound R.tally lines.new ≡ reads_bound R.tally lines.old }
 {
     let ParsedInput { script, words } = read_input(lines, keys, external)?;
@@ -255,13 +255,13 @@ pub fn load_rows<R: Source + Drop>(
     keys: WordKeys,
     external: &str,
 ) -> Result<Vec<u8>, LoadFault>
-    ensures rows { fault_of lines.old ≡ None → AreRowsOf (input_of R.left lines.old) (input_of R.left lines.new) external.now result }
+    ensures rows { lines.old.fault ≡ None → AreRowsOf (input_of R.left lines.old) (input_of R.left lines.new) external.now result }
     ensures in_time { KeepsTime R.tally lines.old lines.new }
     ensures why { IfErr result (λ fault. HasReason R.tally lines.old lines.new fault) }
     ensures bound { reads_bound R.tally lines.new ≡ reads_bound R.tally lines.old }
-    ensures remembered { fault_of lines.new ≡ left_by_load result }
+    ensures remembered { lines.new.fault ≡ left_by_load result }
     ensures later { (R.tally lines.old.reader).failures ≤ (R.tally lines.new.reader).failures }
-    ensures again { (fault : LineFault) → fault_of lines.old ≡ Some fault → (result ≡ Err (LoadFault.Input (serve_fault_of fault))) × Keeps (input_of R.left lines.old) (input_of R.left lines.new) }
+    ensures again { (fault : LineFault) → lines.old.fault ≡ Some fault → (result ≡ Err (LoadFault.Input (serve_fault_of fault))) × Keeps (input_of R.left lines.old) (input_of R.left lines.new) }
     ensures steady { OnOk result ((R.tally lines.new.reader).failures ≡ (R.tally lines.old.reader).failures) }
 {
     let ParsedInput { script, words } = read_input(lines, keys, external)?;

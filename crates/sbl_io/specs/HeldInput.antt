@@ -8,7 +8,6 @@ use Rattle.sbl_io.specs.Devices.{Tally, max_count, max_tries}
 use Rattle.sbl_io.specs.Faults.{left_by}
 use Rattle.sbl_io.specs.LinesOf.{AreWhole, lines_of, max_line}
 use Rattle.sbl_io.specs.declared.lines.Lines.{Lines}
-use Rattle.sbl_io.specs.declared.faults.LineFault.{LineFault}
 use Rattle.sbl_io.specs.declared.faults.LineFault.TheVariants as read
 use Rattle.sbl_io.specs.declared.faults.ServeFault.{ServeFault}
 use Rattle.sbl_io.specs.declared.faults.ServeFault.TheVariants as serve
@@ -36,9 +35,6 @@ module _ {R : Type 0} where
 
   abbrev pub line_of : Lines R → List ℕ
   line_of l = l.line.items
-
-  abbrev pub fault_of : Lines R → Option LineFault
-  fault_of l = l.fault
 
   -- all bytes that are left, if they are known: after those that were read, those left in the reader, or none if it has returned
   -- its end, since it is not read again
@@ -80,20 +76,20 @@ module _ {R : Type 0} where
 
   -- the same; and if the lines have no fault, the last read of the reader was not interrupted
   abbrev pub InTime : (R → Tally) → Lines R → Type 0
-  InTime tally l = AreAsked tally l × (fault_of l ≡ None → (tally l.reader).interruptions ≡ 0)
+  InTime tally l = AreAsked tally l × (l.fault ≡ None → (tally l.reader).interruptions ≡ 0)
 
   abbrev pub KeepsTime : (R → Tally) → Lines R → Lines R → Type 0
   KeepsTime tally old new = InTime tally old → InTime tally new
 
   -- a fault `Read` is caused by the reader or a limit, or the lines return an earlier fault again
   abbrev pub HasReason : (R → Tally) → Lines R → Lines R → ServeFault → Type 0
-  HasReason tally lines new_lines f = f ≡ serve.Read → HasCause tally lines new_lines ⊎ (fault_of lines ≡ Some read.Read)
+  HasReason tally lines new_lines f = f ≡ serve.Read → HasCause tally lines new_lines ⊎ (lines.fault ≡ Some read.Read)
 
   -- What a call that reads whole lines does to them, besides what it takes. With a result that is no fault, the reader has not
   -- failed, and the lines that were taken end with line feeds unless the end of input was reached.
   pub record Reading {A : Type 0} (left : R → Option (List ℕ)) (tally : R → Tally) (old new : Lines R) (result : Result A ServeFault) : Type 0 where
-    pub remembered : fault_of new ≡ left_by result
-    pub drained : result ≡ Err serve.Read → fault_of old ≡ None → IsDrained new
+    pub remembered : new.fault ≡ left_by result
+    pub drained : result ≡ Err serve.Read → old.fault ≡ None → IsDrained new
     pub fuel : OnOk result (fuel_of new ≤ fuel_of old)
     pub later : (tally old.reader).failures ≤ (tally new.reader).failures
     pub stays : StaysEnded old new

@@ -50,14 +50,14 @@ pub struct Lines<R> {
 
 impl<R: Source + Drop> Lines<R> {
     ghost use Rattle.sbl_io.specs.Devices.{IsUnused, max_count};
-    ghost use Rattle.sbl_io.specs.HeldInput.{fuel_of, has_feed, held_of, line_of, fault_of, input_of, max_reads, reads_bound, BeginsLong, BreaksOff, HasCause, HoldsLine, InTime, IsDrained, KeepsTime, StaysEnded, TakesFeeds, GivesLine};
+    ghost use Rattle.sbl_io.specs.HeldInput.{fuel_of, has_feed, held_of, line_of, input_of, max_reads, reads_bound, BeginsLong, BreaksOff, HasCause, HoldsLine, InTime, IsDrained, KeepsTime, StaysEnded, TakesFeeds, GivesLine};
     ghost use Rattle.sbl_io.specs.inside.LineSteps.{AsksInTime, TakesByte, TakesLine, NoFeed};
 
     /// Returns the lines of `reader`, which is read at most 1,099,511,627,776 times. Allocates all buffers. Returns
     /// `AllocError` if an allocation fails.
     pub fn new(alloc: Global, reader: R) -> Result<Lines<R>, AllocError>
         ensures input { IfOk result (λ lines. input_of R.left lines ≡ R.left reader) }
-        ensures fault { IfOk result (λ lines. fault_of lines ≡ None) }
+        ensures fault { IfOk result (λ lines. lines.fault ≡ None) }
         ensures bound { IfOk result (λ lines. reads_bound R.tally lines ≡ min ((R.tally reader).reads + max_reads) max_count) }
         ensures tally { IfOk result (λ lines. R.tally lines.reader ≡ R.tally reader) }
         ensures in_time { IsUnused (R.tally reader) → IfOk result (λ lines. InTime R.tally lines) }
@@ -69,7 +69,7 @@ impl<R: Source + Drop> Lines<R> {
     /// an allocation fails.
     pub fn with_reads(alloc: Global, reader: R, most: u64) -> Result<Lines<R>, AllocError>
         ensures input { IfOk result (λ lines. input_of R.left lines ≡ R.left reader) }
-        ensures fault { IfOk result (λ lines. fault_of lines ≡ None) }
+        ensures fault { IfOk result (λ lines. lines.fault ≡ None) }
         ensures bound { IfOk result (λ lines. reads_bound R.tally lines ≡ min ((R.tally reader).reads + most) max_count) }
         ensures tally { IfOk result (λ lines. R.tally lines.reader ≡ R.tally reader) }
         ensures in_time { IsUnused (R.tally reader) → IfOk result (λ lines. InTime R.tally lines) }
@@ -117,7 +117,7 @@ impl<R: Source + Drop> Lines<R> {
         ensures input { Keeps (input_of R.left self.old) (input_of R.left self.new) }
         ensures end { OnOk result (self.new.at ≡ self.new.end → IsAtEnd (input_of R.left self.new)) }
         ensures line { line_of self.new ≡ line_of self.old }
-        ensures fault { fault_of self.new ≡ fault_of self.old }
+        ensures fault { self.new.fault ≡ self.old.fault }
         ensures drained { OnErr result (IsDrained self.new) }
         ensures fuel { fuel_of self.new ≤ fuel_of self.old }
         ensures later { (R.tally self.old.reader).failures ≤ (R.tally self.new.reader).failures }
@@ -157,7 +157,7 @@ impl<R: Source + Drop> Lines<R> {
         ensures err { OnErr result (Keeps (input_of R.left self.old) (input_of R.left self.new)) }
         ensures drained { OnErr result (IsDrained self.new) }
         ensures line { line_of self.new ≡ line_of self.old }
-        ensures fault { fault_of self.new ≡ fault_of self.old }
+        ensures fault { self.new.fault ≡ self.old.fault }
         ensures fuel { fuel_of self.new ≤ fuel_of self.old }
         ensures falls { IfOk result (λ o. MatchOption o Unit (λ b. fuel_of self.new < fuel_of self.old)) }
         ensures later { (R.tally self.old.reader).failures ≤ (R.tally self.new.reader).failures }
@@ -206,7 +206,7 @@ impl<R: Source + Drop> Lines<R> {
         ensures no_feed { OnOk result (NoFeed (line_of self.new)) }
         ensures cut { OnErr result (BreaksOff (input_of R.left self.old) (input_of R.left self.new) (line_of self.new)) }
         ensures drained { OnErr result (IsDrained self.new) }
-        ensures fault { fault_of self.new ≡ fault_of self.old }
+        ensures fault { self.new.fault ≡ self.old.fault }
         ensures fuel { OnOk result (vec_len self.new.line + fuel_of self.new ≤ fuel_of self.old) }
         ensures falls { IfOk result (λ end. end ≢ LineEnd.Input → fuel_of self.new < fuel_of self.old) }
         ensures later { (R.tally self.old.reader).failures ≤ (R.tally self.new.reader).failures }
@@ -244,7 +244,7 @@ impl<R: Source + Drop> Lines<R> {
         ensures cut { IfErr result (λ fault. fault ≡ LineFault.Read → BreaksOff (input_of R.left self.old) (input_of R.left self.new) (line_of self.new)) }
         ensures drained { IfErr result (λ fault. fault ≡ LineFault.Read → IsDrained self.new) }
         ensures falls { IfOk result (λ more. more ≡ true → fuel_of self.new < fuel_of self.old) }
-        ensures fault { fault_of self.new ≡ fault_of self.old }
+        ensures fault { self.new.fault ≡ self.old.fault }
         ensures later { (R.tally self.old.reader).failures ≤ (R.tally self.new.reader).failures }
         ensures stays { StaysEnded self.old self.new }
         ensures feeds { IfOk result (λ more. more ≡ true → TakesFeeds R.left self.old self.new) }
@@ -278,21 +278,21 @@ impl<R: Source + Drop> Lines<R> {
         ensures more { IfOk result (λ more. more ≡ true → GivesLine (input_of R.left self.old) (input_of R.left self.new) (line_of self.new)) }
         ensures fits { IfOk result (λ more. more ≡ true → length (line_of self.new) ≤ max_line) }
         ensures end { IfOk result (λ more. more ≡ false → IsAtEnd (input_of R.left self.old) × IsAtEnd (input_of R.left self.new) × Keeps (input_of R.left self.old) (input_of R.left self.new)) }
-        ensures long { IfErr result (λ fault. fault ≡ LineFault.TooLong → BeginsLong (input_of R.left self.old) ⊎ (fault_of self.old ≡ Some fault)) }
-        ensures cut { IfErr result (λ fault. fault ≡ LineFault.Read → fault_of self.old ≡ None → BreaksOff (input_of R.left self.old) (input_of R.left self.new) (line_of self.new)) }
-        ensures drained { IfErr result (λ fault. fault ≡ LineFault.Read → fault_of self.old ≡ None → IsDrained self.new) }
+        ensures long { IfErr result (λ fault. fault ≡ LineFault.TooLong → BeginsLong (input_of R.left self.old) ⊎ (self.old.fault ≡ Some fault)) }
+        ensures cut { IfErr result (λ fault. fault ≡ LineFault.Read → self.old.fault ≡ None → BreaksOff (input_of R.left self.old) (input_of R.left self.new) (line_of self.new)) }
+        ensures drained { IfErr result (λ fault. fault ≡ LineFault.Read → self.old.fault ≡ None → IsDrained self.new) }
         ensures falls { IfOk result (λ more. more ≡ true → fuel_of self.new < fuel_of self.old) }
-        ensures again { IsSome (fault_of self.old) → (fault_of self.new ≡ fault_of self.old) × Keeps (input_of R.left self.old) (input_of R.left self.new) }
-        ensures ready { OnOk result ((fault_of self.old ≡ None) × (fault_of self.new ≡ None)) }
-        ensures fault { IfErr result (λ fault. fault_of self.new ≡ Some fault) }
+        ensures again { IsSome self.old.fault → (self.new.fault ≡ self.old.fault) × Keeps (input_of R.left self.old) (input_of R.left self.new) }
+        ensures ready { OnOk result ((self.old.fault ≡ None) × (self.new.fault ≡ None)) }
+        ensures fault { IfErr result (λ fault. self.new.fault ≡ Some fault) }
         ensures later { (R.tally self.old.reader).failures ≤ (R.tally self.new.reader).failures }
         ensures stays { StaysEnded self.old self.new }
         ensures feeds { IfOk result (λ more. more ≡ true → TakesFeeds R.left self.old self.new) }
         ensures steady { OnOk result ((R.tally self.new.reader).failures ≡ (R.tally self.old.reader).failures) }
         ensures bound { reads_bound R.tally self.new ≡ reads_bound R.tally self.old }
-        ensures why { IfErr result (λ fault. fault ≡ LineFault.Read → HasCause R.tally self.old self.new ⊎ (fault_of self.old ≡ Some fault)) }
+        ensures why { IfErr result (λ fault. fault ≡ LineFault.Read → HasCause R.tally self.old self.new ⊎ (self.old.fault ≡ Some fault)) }
         ensures in_time { KeepsTime R.tally self.old self.new }
-        ensures held { HoldsLine self.old → fault_of self.old ≡ None → (result ≡ Ok true) × (self.new.reader ≡ self.old.reader) }
+        ensures held { HoldsLine self.old → self.old.fault ≡ None → (result ≡ Ok true) × (self.new.reader ≡ self.old.reader) }
     {
         if let Some(fault) = self.fault {
             return Err(fault);

@@ -3,7 +3,7 @@ ghost use Rattle.std.specs.Prelude.{◌≡◌, ◌+◌, ◌++◌, [], ◌∷◌,
 ghost use Rattle.std.specs.Io.KnownBytes.{Keeps};
 ghost use Rattle.sbl_reports.specs.Block.{HasText, HoldsText, KeepsText, ReadsBlock, max_lines, max_script};
 ghost use Rattle.sbl_io.specs.Faults.{serve_fault_of};
-ghost use Rattle.sbl_io.specs.HeldInput.{Reading, fault_of, input_of};
+ghost use Rattle.sbl_io.specs.HeldInput.{Reading, input_of};
 ghost use Rattle.sbl_io.specs.declared.faults.LineFault.{LineFault};
 
 use sbl_io::{Lines, ServeFault, Source};
@@ -123,9 +123,9 @@ fn push_ended(bytes: &mut Vec<u8>, line: &[u8]) -> Result<(), AllocError>
 /// Reads the text of a block, up to and including its line `.`, even if the block has no text. Returns `Cut` if the input ends
 /// before that line, and `Read` and `LineTooLong` as the lines return them.
 pub fn read_block<R: Source + Drop>(lines: &mut Lines<R>) -> Result<BlockText, ServeFault>
-    ensures reads { fault_of lines.old ≡ None → ReadsBlock (input_of R.left lines.old) (input_of R.left lines.new) result }
-    ensures ready { OnOk result (fault_of lines.old ≡ None) }
-    ensures again { (fault : LineFault) → fault_of lines.old ≡ Some fault → (result ≡ Err (serve_fault_of fault)) × Keeps (input_of R.left lines.old) (input_of R.left lines.new) }
+    ensures reads { lines.old.fault ≡ None → ReadsBlock (input_of R.left lines.old) (input_of R.left lines.new) result }
+    ensures ready { OnOk result (lines.old.fault ≡ None) }
+    ensures again { (fault : LineFault) → lines.old.fault ≡ Some fault → (result ≡ Err (serve_fault_of fault)) × Keeps (input_of R.left lines.old) (input_of R.left lines.new) }
     ensures reading { Reading R.left R.tally lines.old lines.new result }
 {
     let mut text = BlockText::new(lines.alloc());

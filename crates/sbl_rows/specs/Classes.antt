@@ -1,6 +1,6 @@
 -- Classes: each stem with its members, both in code point order, a prefix first. The members are the words that have the stem, or the
 -- stems that these words have in another list of rows. A word whose run is refused is in no class.
-use Rattle.std.specs.Prelude.{ℕ, Bool, false, List, [], ◌∷◌, map, Option, Some, None}
+use Rattle.std.specs.Prelude.{ℕ, Bool, false, List, [], map, Option, Some, None}
 use Rattle.std.specs.List.{filter, filter_map, find}
 use Rattle.std.specs.Option.{option_and_then, option_map}
 use Rattle.std.specs.Ordering.{nat_cmp}

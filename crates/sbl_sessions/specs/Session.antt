@@ -8,7 +8,7 @@ use Rattle.sbl_reports.specs.Block.{Breaks}
 use Rattle.sbl_sessions.specs.Commands.{command_of}
 use Rattle.sbl_io.specs.Devices.{HasStopped, Tally}
 use Rattle.sbl_io.specs.Faults.{serve_fault_of}
-use Rattle.sbl_io.specs.HeldInput.{HasCause, TookWhole, fault_of, input_of}
+use Rattle.sbl_io.specs.HeldInput.{HasCause, TookWhole, input_of}
 use Rattle.sbl_sessions.specs.Requests.{IsOpen, Request, TookRequests}
 use Rattle.sbl_io.specs.declared.lines.Lines.{Lines}
 use Rattle.sbl_io.specs.declared.faults.LineFault.{LineFault}
@@ -68,7 +68,7 @@ ReturnsAgain f old new result =
 -- line that is too long, or a block that the end of input cuts off, is in the input, as defined above.
 abbrev pub Ends : {R W : Type 0} → (R → Tally) → (W → Tally) → Lines R → Lines R → W → W → Result (Unit {0}) ServeFault → Type 0
 Ends reads writes lines new_lines writer new_writer (Ok u) = ⊤
-Ends reads writes lines new_lines writer new_writer (Err fault.Read) = HasCause reads lines new_lines ⊎ (fault_of lines ≡ Some line.Read)
+Ends reads writes lines new_lines writer new_writer (Err fault.Read) = HasCause reads lines new_lines ⊎ (lines.fault ≡ Some line.Read)
 Ends reads writes lines new_lines writer new_writer (Err fault.Write) = HasStopped writes writer new_writer
 Ends reads writes lines new_lines writer new_writer (Err fault.LineTooLong) = ⊤
 Ends reads writes lines new_lines writer new_writer (Err fault.Cut) = ⊤

@@ -9,7 +9,7 @@ ghost use Rattle.sbl_sessions.specs.Commands.{Makes, line_command};
 ghost use Rattle.sbl_io.specs.Devices.{WritesInTime};
 ghost use Rattle.sbl_io.specs.Faults.{left_by};
 ghost use Rattle.sbl_io.specs.declared.faults.LineFault.{LineFault};
-ghost use Rattle.sbl_io.specs.HeldInput.{IsDrained, KeepsTime, Reading, fault_of, input_of, line_of, reads_bound};
+ghost use Rattle.sbl_io.specs.HeldInput.{IsDrained, KeepsTime, Reading, input_of, line_of, reads_bound};
 ghost use Rattle.sbl_sessions.specs.Session.{Ends, IsSession, ReturnsAgain, moment};
 
 use crate::replies::{BAD_COMMAND, Reply, edit_text, report, write_reply};
@@ -84,7 +84,7 @@ struct Answered {
 /// reply. If the block is not read to its end, makes no edit and returns the fault: `Cut` if the input ends before the line `.`,
 /// and `Read` and `LineTooLong` as the lines return them.
 fn answer<R: Source + Drop>(bench: &mut Bench, lines: &mut Lines<R>) -> Result<Answered, ServeFault>
-    requires ready { fault_of lines.old ≡ None }
+    requires ready { lines.old.fault ≡ None }
     ensures answered { IfOk result (λ answered. IsAnswered (input_of R.left lines.old) (input_of R.left lines.new) (line_of lines.old) (contents_of bench.old) answered.reply (contents_of bench.new)) }
     ensures broken { IfErr result (λ fault. BreaksBlock (input_of R.left lines.old) (input_of R.left lines.new) (line_of lines.old) fault × (contents_of bench.new ≡ contents_of bench.old)) }
     ensures reading { Reading R.left R.tally lines.old lines.new result }
@@ -136,13 +136,13 @@ pub fn serve<R: Source + Drop, W: Sink>(
     lines: &mut Lines<R>,
     writer: &mut W,
 ) -> Result<(), ServeFault>
-    ensures session { fault_of lines.old ≡ None → IsSession (moment R.left W.held lines.old writer.old bench.old) (moment R.left W.held lines.new writer.new bench.new) result }
+    ensures session { lines.old.fault ≡ None → IsSession (moment R.left W.held lines.old writer.old bench.old) (moment R.left W.held lines.new writer.new bench.new) result }
     ensures ends { Ends R.tally W.tally lines.old lines.new writer.old writer.new result }
     ensures steady { OnOk result (((R.tally lines.new.reader).failures ≡ (R.tally lines.old.reader).failures) × ((W.tally writer.new).failures ≡ (W.tally writer.old).failures)) }
     ensures whole { OnOk result (IsAtEnd (input_of R.left lines.new)) }
-    ensures drained { result ≡ Err ServeFault.Read → fault_of lines.old ≡ None → IsDrained lines.new }
-    ensures remembered { fault_of lines.new ≡ left_by result }
-    ensures again { (f : LineFault) → fault_of lines.old ≡ Some f → ReturnsAgain f (moment R.left W.held lines.old writer.old bench.old) (moment R.left W.held lines.new writer.new bench.new) result }
+    ensures drained { result ≡ Err ServeFault.Read → lines.old.fault ≡ None → IsDrained lines.new }
+    ensures remembered { lines.new.fault ≡ left_by result }
+    ensures again { (f : LineFault) → lines.old.fault ≡ Some f → ReturnsAgain f (moment R.left W.held lines.old writer.old bench.old) (moment R.left W.held lines.new writer.new bench.new) result }
     ensures bound { reads_bound R.tally lines.new ≡ reads_bound R.tally lines.old }
     ensures reads_in_time { KeepsTime R.tally lines.old lines.new }
     ensures writes_in_time { WritesInTime W.tally writer.old writer.new }
@@ -158,13 +158,13 @@ pub fn serve_watched<R: Source + Drop, W: Sink, S: Watch>(
     writer: &mut W,
     watch: &mut S,
 ) -> Result<(), ServeFault>
-    ensures session { fault_of lines.old ≡ None → IsSession (moment R.left W.held lines.old writer.old bench.old) (moment R.left W.held lines.new writer.new bench.new) result }
+    ensures session { lines.old.fault ≡ None → IsSession (moment R.left W.held lines.old writer.old bench.old) (moment R.left W.held lines.new writer.new bench.new) result }
     ensures ends { Ends R.tally W.tally lines.old lines.new writer.old writer.new result }
     ensures steady { OnOk result (((R.tally lines.new.reader).failures ≡ (R.tally lines.old.reader).failures) × ((W.tally writer.new).failures ≡ (W.tally writer.old).failures)) }
     ensures whole { OnOk result (IsAtEnd (input_of R.left lines.new)) }
-    ensures drained { result ≡ Err ServeFault.Read → fault_of lines.old ≡ None → IsDrained lines.new }
-    ensures remembered { fault_of lines.new ≡ left_by result }
-    ensures again { (f : LineFault) → fault_of lines.old ≡ Some f → ReturnsAgain f (moment R.left W.held lines.old writer.old bench.old) (moment R.left W.held lines.new writer.new bench.new) result }
+    ensures drained { result ≡ Err ServeFault.Read → lines.old.fault ≡ None → IsDrained lines.new }
+    ensures remembered { lines.new.fault ≡ left_by result }
+    ensures again { (f : LineFault) → lines.old.fault ≡ Some f → ReturnsAgain f (moment R.left W.held lines.old writer.old bench.old) (moment R.left W.held lines.new writer.new bench.new) result }
     ensures bound { reads_bound R.tally lines.new ≡ reads_bound R.tally lines.old }
     ensures reads_in_time { KeepsTime R.tally lines.old lines.new }
     ensures writes_in_time { WritesInTime W.tally writer.old writer.new }

@@ -4,7 +4,7 @@ ghost use Rattle.std.specs.Io.KnownBytes.{Appends};
 ghost use Rattle.std.specs.Prelude.{◌≡◌, ◌≤◌, ℕ, List, IfErr, IfOk, None, OnOk, take};
 ghost use Rattle.sbl_bench.specs.KeptRuns.{contents_of};
 ghost use Rattle.sbl_io.specs.Devices.{HasStopped, WritesInTime};
-ghost use Rattle.sbl_io.specs.HeldInput.{KeepsTime, Reading, fault_of};
+ghost use Rattle.sbl_io.specs.HeldInput.{KeepsTime, Reading};
 ghost use Rattle.sbl_sessions.specs.{CommandViews.IsReply, Session.Ends};
 ghost use Rattle.sbl_history.specs.Desks.{state_of};
 ghost use Rattle.sbl_work.specs.Answering.{AnswersLine, BreaksLine, Works, WorksOnBench};
@@ -197,7 +197,7 @@ fn answer<F: Files + AllocGlobal, R: Source + Drop>(
     bench: &mut Bench,
     lines: &mut Lines<R>,
 ) -> Result<Reply, ServeFault>
-    requires ready { fault_of lines.old ≡ None }
+    requires ready { lines.old.fault ≡ None }
     ensures answered { IfOk result (λ reply. AnswersLine R.left lines.old lines.new bench.old desk.old reply bench.new desk.new) }
     ensures broken { IfErr result (λ fault. BreaksLine R.left lines.old lines.new bench.old desk.old bench.new desk.new fault) }
     ensures reading { Reading R.left R.tally lines.old lines.new result }
@@ -261,7 +261,7 @@ fn serve<F: Files + AllocGlobal, R: Source + Drop, W: Sink, S: Observer>(
     writer: &mut W,
     observer: &mut S,
 ) -> Result<(), ServeFault>
-    ensures work { fault_of lines.old ≡ None → Works R.left W.held prompt.now lines.old lines.new writer.old writer.new bench.old desk.old bench.new desk.new result }
+    ensures work { lines.old.fault ≡ None → Works R.left W.held prompt.now lines.old lines.new writer.old writer.new bench.old desk.old bench.new desk.new result }
     ensures ends { Ends R.tally W.tally lines.old lines.new writer.old writer.new result }
     ensures reads_in_time { KeepsTime R.tally lines.old lines.new }
     ensures writes_in_time { WritesInTime W.tally writer.old writer.new }
@@ -306,7 +306,7 @@ fn serve_bench<F: Files + AllocGlobal, R: Source + Drop, W: Sink, S: Observer>(
     writer: &mut W,
     observer: &mut S,
 ) -> Result<(), ServeFault>
-    ensures works { fault_of lines.old ≡ None → WorksOnBench R.left R.tally W.held W.tally may_break text.items prompt.now lines.old lines.new writer.old writer.new bench.old result }
+    ensures works { lines.old.fault ≡ None → WorksOnBench R.left R.tally W.held W.tally may_break text.items prompt.now lines.old lines.new writer.old writer.new bench.old result }
     ensures reads_in_time { KeepsTime R.tally lines.old lines.new }
     ensures writes_in_time { WritesInTime W.tally writer.old writer.new }
 {
@@ -331,7 +331,7 @@ fn work_on<F: Files + AllocGlobal, R: Source + Drop, W: Sink, S: Observer>(
     writer: &mut W,
     observer: &mut S,
 ) -> Result<(), OpenFault>
-    ensures works { fault_of lines.old ≡ None → WorksOver R.left R.tally W.held W.tally paths.now prompt.now lines.old lines.new writer.old writer.new (status_of result) }
+    ensures works { lines.old.fault ≡ None → WorksOver R.left R.tally W.held W.tally paths.now prompt.now lines.old lines.new writer.old writer.new (status_of result) }
     ensures reads_in_time { KeepsTime R.tally lines.old lines.new }
     ensures writes_in_time { WritesInTime W.tally writer.old writer.new }
 {
@@ -380,7 +380,7 @@ pub fn work<F: Files + AllocGlobal, R: Source + Drop, W: Sink, E: Sink>(
     writer: &mut W,
     errors: &mut E,
 ) -> u8
-    ensures works { fault_of lines.old ≡ None → WorksOver R.left R.tally W.held W.tally paths.now (serving.prompt_of prompts) lines.old lines.new writer.old writer.new result }
+    ensures works { lines.old.fault ≡ None → WorksOver R.left R.tally W.held W.tally paths.now (serving.prompt_of prompts) lines.old lines.new writer.old writer.new result }
     ensures quiet { result ≡ 0 → E.held errors.new ≡ E.held errors.old }
     ensures status { result ≤ 1 }
     ensures reads_in_time { KeepsTime R.tally lines.old lines.new }
@@ -410,7 +410,7 @@ pub fn work_observed<F: Files + AllocGlobal, R: Source + Drop, W: Sink, E: Sink,
     errors: &mut E,
     observer: &mut S,
 ) -> u8
-    ensures works { fault_of lines.old ≡ None → WorksOver R.left R.tally W.held W.tally paths.now (serving.prompt_of prompts) lines.old lines.new writer.old writer.new result }
+    ensures works { lines.old.fault ≡ None → WorksOver R.left R.tally W.held W.tally paths.now (serving.prompt_of prompts) lines.old lines.new writer.old writer.new result }
     ensures quiet { result ≡ 0 → E.held errors.new ≡ E.held errors.old }
     ensures status { result ≤ 1 }
     ensures reads_in_time { KeepsTime R.tally lines.old lines.new }

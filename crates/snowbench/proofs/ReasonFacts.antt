@@ -14,7 +14,7 @@ use Rattle.sbl_sessions.specs.Session.{Ends}
 use Rattle.sbl_input.specs.declared.faults.LoadFault.{LoadFault}
 use Rattle.sbl_input.specs.declared.faults.LoadFault.TheVariants.{Input}
 use Rattle.sbl_io.specs.Devices.{HasStopped, Tally}
-use Rattle.sbl_io.specs.HeldInput.{HasCause, HasReason, fault_of, reads_bound}
+use Rattle.sbl_io.specs.HeldInput.{HasCause, HasReason, reads_bound}
 use Rattle.sbl_io.specs.LinesOf.{max_line}
 use Rattle.sbl_io.specs.declared.lines.Lines.{Lines}
 use Rattle.sbl_io.specs.declared.faults.LineFault.{LineFault}
@@ -80,13 +80,13 @@ module _ {R W : Type 0} (reads : R → Tally) (writes : W → Tally) where
   reasons_later a b c w v f steady bound why = (λ is. cause_later a b c steady bound (why.0 is), why.1)
 
   -- a fault of reading
-  pub read_reasons : (a b : Lines R) (w v : W) (f : ServeFault) → fault_of a ≡ None → HasReason reads a b f → (f ≡ fault.Write → ⊥)
+  pub read_reasons : (a b : Lines R) (w v : W) (f : ServeFault) → a.fault ≡ None → HasReason reads a b f → (f ≡ fault.Write → ⊥)
       → HasReasons reads writes a b w v (Input f)
   read_reasons a b w v fault.Read none why other = (λ is. by (why refl), λ is. cc is)
     where
-      by : HasCause reads a b ⊎ (fault_of a ≡ Some line.Read) → HasCause reads a b
+      by : HasCause reads a b ⊎ (a.fault ≡ Some line.Read) → HasCause reads a b
       by (inl cause) = cause
-      by (inr some) = no_fault (fault_of a) line.Read none some
+      by (inr some) = no_fault a.fault line.Read none some
   read_reasons a b w v fault.Write none why other = absurd (other refl)
   read_reasons a b w v fault.LineTooLong none why other = (λ is. cc is, λ is. cc is)
   read_reasons a b w v fault.Cut none why other = (λ is. cc is, λ is. cc is)
@@ -94,31 +94,31 @@ module _ {R W : Type 0} (reads : R → Tally) (writes : W → Tally) where
   read_reasons a b w v fault.NotText none why other = (λ is. cc is, λ is. cc is)
   read_reasons a b w v fault.OutOfMemory none why other = (λ is. cc is, λ is. cc is)
 
-  load_reasons : (a b : Lines R) (w v : W) (f : LoadFault) → fault_of a ≡ None → load.HasReason reads a b f → (f ≡ Input fault.Write → ⊥)
+  load_reasons : (a b : Lines R) (w v : W) (f : LoadFault) → a.fault ≡ None → load.HasReason reads a b f → (f ≡ Input fault.Write → ⊥)
       → HasReasons reads writes a b w v f
   load_reasons a b w v f none why other = (λ is. by (why is), λ is. absurd (other is))
     where
-      by : HasCause reads a b ⊎ (fault_of a ≡ Some line.Read) → HasCause reads a b
+      by : HasCause reads a b ⊎ (a.fault ≡ Some line.Read) → HasCause reads a b
       by (inl cause) = cause
-      by (inr some) = no_fault (fault_of a) line.Read none some
+      by (inr some) = no_fault a.fault line.Read none some
 
   -- there is no bench
   pub loaded_reasons : {B : Type 0} (a b : Lines R) (w v : W) (f : LoadFault) (old new : Option (List ℕ)) (external : List ℕ) (state : B → Contents)
-      → fault_of a ≡ None → load.HasReason reads a b f → IsLoaded old new external state (Err f)
+      → a.fault ≡ None → load.HasReason reads a b f → IsLoaded old new external state (Err f)
       → HasReasons reads writes a b w v f
   loaded_reasons a b w v f old new external state none why loaded = load_reasons a b w v f none why (loaded_not_write old new external state f loaded)
 
   -- there is no text of a script
-  pub script_reasons : (a b : Lines R) (w v : W) (f : LoadFault) (old new : Option (List ℕ)) → fault_of a ≡ None → load.HasReason reads a b f
+  pub script_reasons : (a b : Lines R) (w v : W) (f : LoadFault) (old new : Option (List ℕ)) → a.fault ≡ None → load.HasReason reads a b f
       → ReadsScript old new (Err f) → HasReasons reads writes a b w v f
   script_reasons a b w v f old new none why read = load_reasons a b w v f none why (script_not_write old new f read)
 
   -- there are no words, or no expected stems
-  pub words_reasons : (a b : Lines R) (w v : W) (f : ServeFault) (old new : Option (List ℕ)) → fault_of a ≡ None → HasReason reads a b f
+  pub words_reasons : (a b : Lines R) (w v : W) (f : ServeFault) (old new : Option (List ℕ)) → a.fault ≡ None → HasReason reads a b f
       → ReadsWords old new (Err f) → HasReasons reads writes a b w v (Input f)
   words_reasons a b w v f old new none why read = read_reasons a b w v f none why (words_not_write old new f read)
 
-  pub expected_reasons : (a b : Lines R) (w v : W) (f : ServeFault) (old new : Option (List ℕ)) → fault_of a ≡ None → HasReason reads a b f
+  pub expected_reasons : (a b : Lines R) (w v : W) (f : ServeFault) (old new : Option (List ℕ)) → a.fault ≡ None → HasReason reads a b f
       → ReadsExpected old new (Err f) → HasReasons reads writes a b w v (Input f)
   expected_reasons a b w v f old new none why read = read_reasons a b w v f none why (expected_not_write old new f read)
 
@@ -141,14 +141,14 @@ module _ {R W : Type 0} (reads : R → Tally) (writes : W → Tally) where
   check_result_reasons a b w v (Err f) s words expected old new checked stopped = check_reasons a b w v f s words expected old new checked stopped
 
   -- a fault of a session from its bench on
-  pub serve_reasons : (a b c : Lines R) (w v : W) (f : ServeFault) → fault_of b ≡ None → (reads b.reader).failures ≡ (reads a.reader).failures
+  pub serve_reasons : (a b c : Lines R) (w v : W) (f : ServeFault) → b.fault ≡ None → (reads b.reader).failures ≡ (reads a.reader).failures
       → reads_bound reads b ≡ reads_bound reads a → Ends reads writes b c w v (Err f)
       → HasReasons reads writes a c w v (Input f)
   serve_reasons a b c w v fault.Read none steady bound ends = (λ is. by ends, λ is. cc is)
     where
-      by : HasCause reads b c ⊎ (fault_of b ≡ Some line.Read) → HasCause reads a c
+      by : HasCause reads b c ⊎ (b.fault ≡ Some line.Read) → HasCause reads a c
       by (inl cause) = cause_later a b c steady bound cause
-      by (inr some) = no_fault (fault_of b) line.Read none some
+      by (inr some) = no_fault b.fault line.Read none some
   serve_reasons a b c w v fault.Write none steady bound ends = (λ is. cc is, λ is. ends)
   serve_reasons a b c w v fault.LineTooLong none steady bound ends = (λ is. cc is, λ is. cc is)
   serve_reasons a b c w v fault.Cut none steady bound ends = (λ is. cc is, λ is. cc is)
@@ -157,11 +157,11 @@ module _ {R W : Type 0} (reads : R → Tally) (writes : W → Tally) where
   serve_reasons a b c w v fault.OutOfMemory none steady bound ends = absurd ends
 
   -- a fault of the words of a filter
-  pub filter_reasons : (a b c : Lines R) (w v : W) (f : LoadFault) → fault_of b ≡ None → (reads b.reader).failures ≡ (reads a.reader).failures
+  pub filter_reasons : (a b c : Lines R) (w v : W) (f : LoadFault) → b.fault ≡ None → (reads b.reader).failures ≡ (reads a.reader).failures
       → reads_bound reads b ≡ reads_bound reads a → load.HasReason reads b c f → (f ≡ Input fault.Write → HasStopped writes w v)
       → HasReasons reads writes a c w v f
   filter_reasons a b c w v f none steady bound why stopped = (λ is. by (why is), stopped)
     where
-      by : HasCause reads b c ⊎ (fault_of b ≡ Some line.Read) → HasCause reads a c
+      by : HasCause reads b c ⊎ (b.fault ≡ Some line.Read) → HasCause reads a c
       by (inl cause) = cause_later a b c steady bound cause
-      by (inr some) = no_fault (fault_of b) line.Read none some
+      by (inr some) = no_fault b.fault line.Read none some

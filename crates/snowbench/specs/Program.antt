@@ -8,7 +8,7 @@ use Rattle.snowbench.specs.declared.command_line.Wanted.{Wanted}
 use Rattle.sbl_input.specs.declared.faults.LoadFault.{LoadFault}
 use Rattle.sbl_input.specs.declared.faults.LoadFault.TheVariants.{Input}
 use Rattle.sbl_io.specs.Devices.{HasStopped, IsUnused, Tally, max_count}
-use Rattle.sbl_io.specs.HeldInput.{HasCause, InTime, KeepsTime, fault_of, input_of, max_reads, reads_bound}
+use Rattle.sbl_io.specs.HeldInput.{HasCause, InTime, KeepsTime, input_of, max_reads, reads_bound}
 use Rattle.sbl_io.specs.declared.lines.Lines.{Lines}
 use Rattle.sbl_io.specs.declared.faults.ServeFault.TheVariants as fault
 use Rattle.sbl_batch.specs.Filter.{IsFiltered}
@@ -73,7 +73,7 @@ pub record Runs {R W E : Type 0} (left : R → Option (List ℕ)) (reads : R →
 -- these lines were made of the reader, and nothing was read yet
 pub record AreLinesOf {R : Type 0} (left : R → Option (List ℕ)) (tally : R → Tally) (reader : R) (lines : Lines R) : Type 0 where
   pub input : input_of left lines ≡ left reader
-  pub fault : fault_of lines ≡ None
+  pub fault : lines.fault ≡ None
   pub counts : tally lines.reader ≡ tally reader
   pub bound : reads_bound tally lines ≡ min ((tally reader).reads + max_reads) max_count
   pub in_time : IsUnused (tally reader) → InTime tally lines

@@ -1,7 +1,7 @@
 //! `filter` of a script in a file: nothing ends the words but the end of input.
 ghost use Rattle.std.specs.Prelude.{◌≡◌, None, IfErr};
 ghost use Rattle.sbl_io.specs.Devices.{WritesInTime};
-ghost use Rattle.sbl_io.specs.HeldInput.{KeepsTime, fault_of, input_of, reads_bound};
+ghost use Rattle.sbl_io.specs.HeldInput.{KeepsTime, input_of, reads_bound};
 ghost use Rattle.snowbench.specs.Program.{HasReasons};
 ghost use Rattle.snowbench.specs.ScriptFiles.{cause_of};
 ghost use Rattle.snowbench.specs.WholeFilter.{FiltersFile};
@@ -24,8 +24,8 @@ pub fn filter_file<R: Source + Drop, W: Sink>(
     lines: &mut Lines<R>,
     writer: &mut W,
 ) -> Result<(), FilesFault>
-    ensures filtered { fault_of lines.old ≡ None → FiltersFile script.now external.now (input_of R.left lines.old) (input_of R.left lines.new) (W.held writer.old) (W.held writer.new) result }
-    ensures why { fault_of lines.old ≡ None → IfErr result (λ fault. HasReasons R.tally W.tally lines.old lines.new writer.old writer.new (cause_of fault)) }
+    ensures filtered { lines.old.fault ≡ None → FiltersFile script.now external.now (input_of R.left lines.old) (input_of R.left lines.new) (W.held writer.old) (W.held writer.new) result }
+    ensures why { lines.old.fault ≡ None → IfErr result (λ fault. HasReasons R.tally W.tally lines.old lines.new writer.old writer.new (cause_of fault)) }
     ensures bound { reads_bound R.tally lines.new ≡ reads_bound R.tally lines.old }
     ensures reads_in_time { KeepsTime R.tally lines.old lines.new }
     ensures writes_in_time { WritesInTime W.tally writer.old writer.new }

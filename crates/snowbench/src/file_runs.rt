@@ -1,7 +1,7 @@
 //! `run` and `check` over the bytes of files.
 ghost use Rattle.std.specs.Prelude.{◌≡◌, None, IfErr};
 ghost use Rattle.sbl_io.specs.Devices.{HasStopped, WritesInTime};
-ghost use Rattle.sbl_io.specs.HeldInput.{KeepsTime, fault_of, input_of, reads_bound};
+ghost use Rattle.sbl_io.specs.HeldInput.{KeepsTime, input_of, reads_bound};
 ghost use Rattle.snowbench.specs.FileRuns.{ChecksFiles, HasFilesReasons, IsFilesSession, WritesFilesRows, overlong_fault};
 
 use crate::script_files::{
@@ -30,8 +30,8 @@ pub fn run_files<R: Source + Drop, W: Sink, S: Watch + Progress>(
     writer: &mut W,
     watch: &mut S,
 ) -> Result<(), FilesFault>
-    ensures session { fault_of commands.old ≡ None → IsFilesSession input.now (input_of R.left commands.old) (input_of R.left commands.new) (W.held writer.old) (W.held writer.new) result }
-    ensures why { fault_of commands.old ≡ None → IfErr result (λ fault. HasFilesReasons R.tally W.tally commands.old commands.new writer.old writer.new fault) }
+    ensures session { commands.old.fault ≡ None → IsFilesSession input.now (input_of R.left commands.old) (input_of R.left commands.new) (W.held writer.old) (W.held writer.new) result }
+    ensures why { commands.old.fault ≡ None → IfErr result (λ fault. HasFilesReasons R.tally W.tally commands.old commands.new writer.old writer.new fault) }
     ensures bound { reads_bound R.tally commands.new ≡ reads_bound R.tally commands.old }
     ensures reads_in_time { KeepsTime R.tally commands.old commands.new }
     ensures writes_in_time { WritesInTime W.tally writer.old writer.new }

@@ -3,7 +3,7 @@ ghost use Rattle.std.specs.Prelude.{◌≡◌, ◌≤◌, ◌++◌, ◌∷◌, [
 ghost use Rattle.std.specs.Fmt.InlineText.{inline_text};
 ghost use Rattle.sbl_io.specs.Devices.{WritesInTime};
 ghost use Rattle.sbl_io.specs.Faults.{left_by};
-ghost use Rattle.sbl_io.specs.HeldInput.{KeepsTime, HasReason, fault_of, input_of as input, reads_bound};
+ghost use Rattle.sbl_io.specs.HeldInput.{KeepsTime, HasReason, input_of as input, reads_bound};
 ghost use Rattle.sbl_script.specs.ParsedScript.{source_of};
 ghost use Rattle.sbl_input.specs.declared.faults.LoadFault.{LoadFault};
 ghost use Rattle.snowbench.specs.Answering.{Answering};
@@ -78,7 +78,7 @@ pub fn run_with<R: Source + Drop, W: Sink, E: Sink>(
     writer: &mut W,
     errors: &mut E,
 ) -> u8
-    ensures runs { fault_of lines.old ≡ None → Runs R.left R.tally W.held W.tally E.held E.tally wanted.now lines.old lines.new writer.old writer.new errors.old errors.new result }
+    ensures runs { lines.old.fault ≡ None → Runs R.left R.tally W.held W.tally E.held E.tally wanted.now lines.old lines.new writer.old writer.new errors.old errors.new result }
     ensures status { result ≤ 1 }
     ensures bound { reads_bound R.tally lines.new ≡ reads_bound R.tally lines.old }
     ensures reads_in_time { KeepsTime R.tally lines.old lines.new }
@@ -98,7 +98,7 @@ pub fn run_watched<R: Source + Drop, W: Sink, E: Sink, S: Watch + Progress>(
     errors: &mut E,
     watch: &mut S,
 ) -> u8
-    ensures runs { fault_of lines.old ≡ None → Runs R.left R.tally W.held W.tally E.held E.tally wanted.now lines.old lines.new writer.old writer.new errors.old errors.new result }
+    ensures runs { lines.old.fault ≡ None → Runs R.left R.tally W.held W.tally E.held E.tally wanted.now lines.old lines.new writer.old writer.new errors.old errors.new result }
     ensures status { result ≤ 1 }
     ensures bound { reads_bound R.tally lines.new ≡ reads_bound R.tally lines.old }
     ensures reads_in_time { KeepsTime R.tally lines.old lines.new }
@@ -144,7 +144,7 @@ pub fn answer<R: Source + Drop, W: Sink, S: Watch + Progress>(
     writer: &mut W,
     watch: &mut S,
 ) -> Result<u64, LoadFault>
-    ensures answers { fault_of lines.old ≡ None → IsAnswer wanted.now.verb (bytes wanted.now.external) (input R.left lines.old) (input R.left lines.new) (W.held writer.old) (W.held writer.new) result }
+    ensures answers { lines.old.fault ≡ None → IsAnswer wanted.now.verb (bytes wanted.now.external) (input R.left lines.old) (input R.left lines.new) (W.held writer.old) (W.held writer.new) result }
     ensures answering { Answering R.tally W.tally lines.old lines.new writer.old writer.new result }
     ensures bound { reads_bound R.tally lines.new ≡ reads_bound R.tally lines.old }
 {
@@ -176,7 +176,7 @@ fn session<R: Source + Drop, W: Sink, S: Watch + Progress>(
     writer: &mut W,
     watch: &mut S,
 ) -> Result<(), LoadFault>
-    ensures session { fault_of lines.old ≡ None → IsWholeSession (input R.left lines.old) (input R.left lines.new) external.now (W.held writer.old) (W.held writer.new) result }
+    ensures session { lines.old.fault ≡ None → IsWholeSession (input R.left lines.old) (input R.left lines.new) external.now (W.held writer.old) (W.held writer.new) result }
     ensures answering { Answering R.tally W.tally lines.old lines.new writer.old writer.new result }
     ensures bound { reads_bound R.tally lines.new ≡ reads_bound R.tally lines.old }
 {
@@ -195,7 +195,7 @@ fn stem<R: Source + Drop, W: Sink>(
     keys: WordKeys,
     writer: &mut W,
 ) -> Result<(), LoadFault>
-    ensures stemmed { fault_of lines.old ≡ None → IsStemmed (input R.left lines.old) (input R.left lines.new) external.now (W.held writer.old) (W.held writer.new) result }
+    ensures stemmed { lines.old.fault ≡ None → IsStemmed (input R.left lines.old) (input R.left lines.new) external.now (W.held writer.old) (W.held writer.new) result }
     ensures answering { Answering R.tally W.tally lines.old lines.new writer.old writer.new result }
     ensures bound { reads_bound R.tally lines.new ≡ reads_bound R.tally lines.old }
 {
@@ -212,7 +212,7 @@ fn check_input<R: Source + Drop, W: Sink, P: Progress>(
     writer: &mut W,
     progress: &mut P,
 ) -> Result<u64, LoadFault>
-    ensures checked { fault_of lines.old ≡ None → IsWholeCheck (input R.left lines.old) (input R.left lines.new) external.now (W.held writer.old) (W.held writer.new) result }
+    ensures checked { lines.old.fault ≡ None → IsWholeCheck (input R.left lines.old) (input R.left lines.new) external.now (W.held writer.old) (W.held writer.new) result }
     ensures answering { Answering R.tally W.tally lines.old lines.new writer.old writer.new result }
     ensures bound { reads_bound R.tally lines.new ≡ reads_bound R.tally lines.old }
 {
@@ -231,8 +231,8 @@ fn check_lists<R: Source + Drop, W: Sink, P: Progress>(
     writer: &mut W,
     progress: &mut P,
 ) -> Result<u64, ServeFault>
-    ensures checked { fault_of lines.old ≡ None → ChecksLists (source_of script.now) (input R.left lines.old) (input R.left lines.new) (W.held writer.old) (W.held writer.new) result }
-    ensures why { fault_of lines.old ≡ None → IfErr result (λ fault. HasReasons R.tally W.tally lines.old lines.new writer.old writer.new (LoadFault.Input fault)) }
+    ensures checked { lines.old.fault ≡ None → ChecksLists (source_of script.now) (input R.left lines.old) (input R.left lines.new) (W.held writer.old) (W.held writer.new) result }
+    ensures why { lines.old.fault ≡ None → IfErr result (λ fault. HasReasons R.tally W.tally lines.old lines.new writer.old writer.new (LoadFault.Input fault)) }
     ensures bound { reads_bound R.tally lines.new ≡ reads_bound R.tally lines.old }
     ensures reads_in_time { KeepsTime R.tally lines.old lines.new }
     ensures writes_in_time { WritesInTime W.tally writer.old writer.new }
@@ -245,8 +245,8 @@ fn check_lists<R: Source + Drop, W: Sink, P: Progress>(
 /// Reads the lines up to a line `.` and returns them, each as `push_line` appends it. Returns `Cut` if the input ends
 /// before.
 fn read_word_block<R: Source + Drop>(lines: &mut Lines<R>) -> Result<Vec<u8>, ServeFault>
-    ensures reads { fault_of lines.old ≡ None → ReadsWords (input R.left lines.old) (input R.left lines.new) result }
-    ensures remembered { fault_of lines.new ≡ left_by result }
+    ensures reads { lines.old.fault ≡ None → ReadsWords (input R.left lines.old) (input R.left lines.new) result }
+    ensures remembered { lines.new.fault ≡ left_by result }
     ensures steady { OnOk result ((R.tally lines.new.reader).failures ≡ (R.tally lines.old.reader).failures) }
     ensures bound { reads_bound R.tally lines.new ≡ reads_bound R.tally lines.old }
     ensures why { IfErr result (λ fault. HasReason R.tally lines.old lines.new fault) }
@@ -264,7 +264,7 @@ fn read_word_block<R: Source + Drop>(lines: &mut Lines<R>) -> Result<Vec<u8>, Se
 
 /// Reads the lines up to the end of input and returns them, each as `push_line` appends it.
 fn read_expected<R: Source + Drop>(lines: &mut Lines<R>) -> Result<Vec<u8>, ServeFault>
-    ensures reads { fault_of lines.old ≡ None → ReadsExpected (input R.left lines.old) (input R.left lines.new) result }
+    ensures reads { lines.old.fault ≡ None → ReadsExpected (input R.left lines.old) (input R.left lines.new) result }
     ensures why { IfErr result (λ fault. HasReason R.tally lines.old lines.new fault) }
     ensures bound { reads_bound R.tally lines.new ≡ reads_bound R.tally lines.old }
     ensures in_time { KeepsTime R.tally lines.old lines.new }

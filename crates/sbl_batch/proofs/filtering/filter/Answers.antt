@@ -3,7 +3,6 @@ use Rattle.std.proofs.KnownBytes.{Appends-nil, Keeps-refl}
 use Rattle.std.proofs.lemmas.Result.{err_from_is_err_and}
 use Rattle.sbl_batch.proofs.FilterFacts.{script-no_write}
 use Rattle.sbl_io.specs.Faults.{serve_fault_of}
-use Rattle.sbl_io.specs.HeldInput.{fault_of}
 use Rattle.sbl_io.specs.declared.faults.LineFault.{LineFault}
 use Rattle.sbl_input.proofs.LoadFacts.{script_refused}
 use Rattle.sbl_input.specs.declared.faults.LoadFault.TheVariants.{Input}
@@ -12,9 +11,9 @@ use Rattle.sbl_batch.proofs.filtering.filter.Goals as goal
 pub returns-in_err-text-clause-why_write : goal.returns-in_err-text-clause-why_write
 returns-in_err-text-clause-why_write g c =
     let p = err_from_is_err_and c.from_residual.result c.from_residual.ensures.1 in
-    let again : (l : LineFault) → fault_of c.args.lines.now ≡ Some l → c.in_err-text.field-0.0 ≡ Input (serve_fault_of l) =
+    let again : (l : LineFault) → c.args.lines.now.fault ≡ Some l → c.in_err-text.field-0.0 ≡ Input (serve_fault_of l) =
     λ l e. (let before = c.read_script.ensures.again l e in let is : c.in_err-text.field-0.0 ≡ Input (serve_fault_of l) = search (rules, before.0) in is) in
-    rw (p.1, p.2) (λ is. absurd (script-no_write (fault_of c.args.lines.now) _ _ c.in_err-text.field-0.0 c.in_err-text.ensures.reads again is))
+    rw (p.1, p.2) (λ is. absurd (script-no_write c.args.lines.now.fault _ _ c.in_err-text.field-0.0 c.in_err-text.ensures.reads again is))
 
 pub returns-in_err-text-clause-again : goal.returns-in_err-text-clause-again
 returns-in_err-text-clause-again g c = λ fault is.

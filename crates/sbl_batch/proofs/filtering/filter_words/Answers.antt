@@ -1,7 +1,7 @@
 use Rattle.std.proofs.Common.{◌≡◌, ◌∙◌, [], sym, ap}
 use Rattle.std.proofs.lemmas.Result.{err_from_is_err_and, on_ok_weaker}
 use Rattle.sbl_batch.proofs.FilterFacts.{filters-cut, filters-none, filters-written, in_time-after, left-kept, stopped-kept, stopped-later}
-use Rattle.sbl_io.specs.HeldInput.{fault_of, input_of}
+use Rattle.sbl_io.specs.HeldInput.{input_of}
 use Rattle.sbl_script.specs.ParsedScript.{source_of}
 use Rattle.sbl_batch.proofs.filtering.filter_words.Goals as goal
 
@@ -36,7 +36,7 @@ returns-in_err-write_to-clause-remembered g c = λ none.
     let some : c.read_words-ended.new.rows.text.items ≡ [] → ⊥ = λ none. (let ok = (c.write_to.ensures.none none).0 in let no : ⊥ = cc (ok, c.in_err-write_to.was) in no) in
     rw (p.1, p.2, c.in_err-write_to.ensures.why.0)
     (left-kept (source_of c.args.script.now) (input_of left c.args.lines.now) (input_of left c.read_words-ended.new.lines) (held c.args.writer.now) (held c.read_words-ended.new.writer) (held c.write_to.new.writer)
-    c.read_words-ended.new.rows.text.items c.read_words-ended.result (fault_of c.read_words-ended.new.lines) (c.read_words-ended.ensures.reads (source_of c.args.script.now) c.in_ok-machine.ensures none) (c.read_words-ended.ensures.remembered none) some)
+    c.read_words-ended.new.rows.text.items c.read_words-ended.result c.read_words-ended.new.lines.fault (c.read_words-ended.ensures.reads (source_of c.args.script.now) c.in_ok-machine.ensures none) (c.read_words-ended.ensures.remembered none) some)
 
 pub returns-in_err-write_to-clause-why_write : goal.returns-in_err-write_to-clause-why_write
 returns-in_err-write_to-clause-why_write g c =

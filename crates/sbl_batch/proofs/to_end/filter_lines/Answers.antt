@@ -2,7 +2,7 @@ use Rattle.std.proofs.Common.{◌≡◌, ◌∙◌, [], sym, ap}
 use Rattle.std.proofs.lemmas.Result.{err_from_is_err_and, on_ok_weaker}
 use Rattle.sbl_batch.proofs.FilterFacts.{in_time-after, stopped-kept, stopped-later}
 use Rattle.sbl_batch.proofs.ToEndFacts.{to_end-kept, to_end-left, to_end-none, to_end-written}
-use Rattle.sbl_io.specs.HeldInput.{fault_of, input_of}
+use Rattle.sbl_io.specs.HeldInput.{input_of}
 use Rattle.sbl_script.specs.ParsedScript.{source_of}
 use Rattle.sbl_batch.proofs.to_end.filter_lines.Goals as goal
 
@@ -37,7 +37,7 @@ returns-in_err-write_to-clause-remembered g c = λ none.
     let some : c.read_lines-ended.new.rows.text.items ≡ [] → ⊥ = λ none. (let ok = (c.write_to.ensures.none none).0 in let no : ⊥ = cc (ok, c.in_err-write_to.was) in no) in
     rw (p.1, p.2, c.in_err-write_to.ensures.why.0)
     (to_end-kept (source_of c.args.script.now) (input_of left c.args.lines.now) (input_of left c.read_lines-ended.new.lines) (held c.args.writer.now) (held c.read_lines-ended.new.writer) (held c.write_to.new.writer)
-    c.read_lines-ended.new.rows.text.items c.read_lines-ended.new.line c.read_lines-ended.result (fault_of c.read_lines-ended.new.lines) (c.read_lines-ended.ensures.reads (source_of c.args.script.now) c.in_ok-machine.ensures none) (c.read_lines-ended.ensures.remembered none) some)
+    c.read_lines-ended.new.rows.text.items c.read_lines-ended.new.line c.read_lines-ended.result c.read_lines-ended.new.lines.fault (c.read_lines-ended.ensures.reads (source_of c.args.script.now) c.in_ok-machine.ensures none) (c.read_lines-ended.ensures.remembered none) some)
 
 pub returns-in_err-write_to-clause-why_write : goal.returns-in_err-write_to-clause-why_write
 returns-in_err-write_to-clause-why_write g c =

@@ -3,7 +3,7 @@ use Rattle.std.proofs.lemmas.Result.{err_from_is_err_and}
 use Rattle.sbl_batch.proofs.FilterFacts.{line-leaves, line-no_read, line-no_write, no_line, reason-before, stopped-before}
 use Rattle.sbl_batch.proofs.ToEndFacts.{lines-moved, lines-none, lines-push, next_line, to_end-all, to_end-broken, to_end-cut, to_end-fault}
 use Rattle.sbl_batch.specs.HeldRows.{PushesRow}
-use Rattle.sbl_io.specs.HeldInput.{fault_of, input_of, line_of}
+use Rattle.sbl_io.specs.HeldInput.{input_of, line_of}
 use Rattle.sbl_batch.proofs.to_end.read_lines.Goals as goal
 
 pub loop-lines-init : goal.loop-lines-init
@@ -34,7 +34,7 @@ returns-in_err-next_line-clause-reads g c = λ s made none.
     let kept = c.loop-lines.invariant.fault ∙ none in
     let bare : c.holds_line.result ≡ false = no_line c.holds_line.result (λ has. (let ok = (c.next_line.ensures.held (sym c.holds_line.ensures ∙ has) kept).0 in let no : ⊥ = cc (ok, c.in_err-next_line.was) in no)) in
     let p = err_from_is_err_and c.from_residual-in_err-next_line.result c.from_residual-in_err-next_line.ensures.1 in
-    rw (p.1, p.2) (to_end-broken moved (input_of left c.next_line.new.self) (fault_of c.loop-lines.lines) (line_of c.next_line.new.self) c.in_err-next_line.field-0.0
+    rw (p.1, p.2) (to_end-broken moved (input_of left c.next_line.new.self) c.loop-lines.lines.fault (line_of c.next_line.new.self) c.in_err-next_line.field-0.0
     c.loop-lines.line (c.write_due.ensures.before_read bare) kept so.2 c.in_err-next_line.ensures.long c.in_err-next_line.ensures.cut)
 
 pub returns-then-not-branch-clause-reads : goal.returns-then-not-branch-clause-reads

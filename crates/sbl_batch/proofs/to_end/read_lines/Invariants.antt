@@ -4,7 +4,7 @@ use Rattle.sbl_batch.specs.HeldRows.{LinesHeld}
 use Rattle.sbl_batch.specs.LineWriter.{IsBetweenLines}
 use Rattle.sbl_batch.specs.ToEnd.{line_after}
 use Rattle.sbl_io.specs.Devices.{WritesInTime}
-use Rattle.sbl_io.specs.HeldInput.{KeepsTime, fault_of, fuel_of, input_of, reads_bound}
+use Rattle.sbl_io.specs.HeldInput.{KeepsTime, fuel_of, input_of, reads_bound}
 use Rattle.sbl_machine.specs.MachineOf.{IsLinkedMachineOf}
 use Rattle.sbl_batch.proofs.to_end.read_lines.Given as goal
 
@@ -12,7 +12,7 @@ abbrev pub invariant-loop-lines : goal.invariant-loop-lines
 invariant-loop-lines g l = record {
   between : IsBetweenLines l.rows.lines;
   words : (s : Source) → IsLinkedMachineOf l.machine s → (lines : List (List ℕ)) × LinesHeld s (input_of g.R.Source.left l.fn.lines) (input_of g.R.Source.left l.lines) (g.W.Sink.held l.fn.writer) (g.W.Sink.held l.writer) l.rows.text.items lines × (l.line ≡ line_after lines);
-  fault : fault_of l.lines ≡ fault_of l.fn.lines;
+  fault : l.lines.fault ≡ l.fn.lines.fault;
   read : (g.R.Source.tally l.lines.reader).failures ≡ (g.R.Source.tally l.fn.lines.reader).failures;
   written : (g.W.Sink.tally l.writer).failures ≡ (g.W.Sink.tally l.fn.writer).failures;
   bound : reads_bound g.R.Source.tally l.lines ≡ reads_bound g.R.Source.tally l.fn.lines;

@@ -5,7 +5,7 @@ use Rattle.std.proofs.KnownBytes.{Keeps-refl}
 use Rattle.sbl_bench.specs.KeptRuns.{contents_of}
 use Rattle.std.proofs.lemmas.Result.{err_from_is_err_and}
 use Rattle.sbl_bench.specs.Contents.{Contents}
-use Rattle.sbl_io.specs.HeldInput.{TookWhole, fault_of, input_of, line_of}
+use Rattle.sbl_io.specs.HeldInput.{TookWhole, input_of, line_of}
 use Rattle.sbl_sessions.specs.Session.{IsSession}
 use Rattle.sbl_io.specs.declared.faults.LineFault.TheVariants as read
 use Rattle.sbl_io.specs.declared.faults.ServeFault.{ServeFault}
@@ -68,7 +68,7 @@ returns-in_err-next_line-clause-session g c = λ none.
     let p = err_from_is_err_and c.from_residual.result c.from_residual.ensures.1 in
     let whole : c.in_err-next_line.field-0.0 ≡ read.Read → TookWhole (input_of left c.args.lines.now) (input_of left c.loop-row.lines) =
     λ is. c.loop-row.invariant.feeds (c.next_line.ensures.stays (c.in_err-next_line.ensures.drained is (c.loop-row.invariant.fault ∙ none)).1) in
-    rw (p.1, p.2) (session_at_line _ (input_of left c.loop-row.lines) _ _ _ _ _ (fault_of c.loop-row.lines) (line_of c.next_line.new.self) c.in_err-next_line.field-0.0
+    rw (p.1, p.2) (session_at_line _ (input_of left c.loop-row.lines) _ _ _ _ _ c.loop-row.lines.fault (line_of c.next_line.new.self) c.in_err-next_line.field-0.0
     c.loop-row.invariant.session (c.loop-row.invariant.fault ∙ none) whole c.in_err-next_line.ensures.long c.in_err-next_line.ensures.cut)
 
 pub returns-in_err-answered-clause-session : goal.returns-in_err-answered-clause-session

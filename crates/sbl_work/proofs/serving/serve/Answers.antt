@@ -5,7 +5,7 @@ use Rattle.std.specs.Str.{bytes_eq}
 use Rattle.sbl_bench.specs.KeptRuns.{contents_of}
 use Rattle.sbl_bench.specs.Contents.{Contents}
 use Rattle.sbl_io.proofs.Bytes.{whole_none, whole_trans}
-use Rattle.sbl_io.specs.HeldInput.{TookWhole, fault_of, input_of, line_of}
+use Rattle.sbl_io.specs.HeldInput.{TookWhole, input_of, line_of}
 use Rattle.sbl_io.specs.declared.faults.LineFault.TheVariants as read
 use Rattle.sbl_io.specs.declared.faults.ServeFault.{ServeFault}
 use Rattle.sbl_io.specs.declared.faults.ServeFault.TheVariants as fault
@@ -82,7 +82,7 @@ returns-in_err-next_line-clause-work g c = λ none.
     let p = err_from_is_err_and c.from_residual-in_err-next_line.result c.from_residual-in_err-next_line.ensures.1 in
     let whole : c.in_err-next_line.field-0.0 ≡ read.Read → TookWhole (input_of left c.args.lines.now) (input_of left c.loop-lines.lines) =
     λ is. c.loop-lines.invariant.feeds (c.next_line.ensures.stays (c.in_err-next_line.ensures.drained is (c.loop-lines.invariant.fault ∙ none)).1) in
-    rw (p.1, p.2) (work_at_line _ _ (input_of left c.loop-lines.lines) _ _ _ _ _ _ _ (fault_of c.loop-lines.lines) (line_of c.next_line.new.self) c.in_err-next_line.field-0.0
+    rw (p.1, p.2) (work_at_line _ _ (input_of left c.loop-lines.lines) _ _ _ _ _ _ _ c.loop-lines.lines.fault (line_of c.next_line.new.self) c.in_err-next_line.field-0.0
     c.loop-lines.invariant.work (c.loop-lines.invariant.fault ∙ none) whole c.in_err-next_line.ensures.long c.in_err-next_line.ensures.cut)
 
 pub returns-in_err-reply-clause-work : goal.returns-in_err-reply-clause-work

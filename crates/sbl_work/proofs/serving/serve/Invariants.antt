@@ -1,7 +1,7 @@
 use Rattle.std.proofs.Common.{◌≡◌}
 use Rattle.sbl_bench.specs.KeptRuns.{contents_of}
 use Rattle.sbl_io.specs.Devices.{WritesInTime}
-use Rattle.sbl_io.specs.HeldInput.{KeepsTime, TakesFeeds, fault_of, fuel_of, input_of, reads_bound}
+use Rattle.sbl_io.specs.HeldInput.{KeepsTime, TakesFeeds, fuel_of, input_of, reads_bound}
 use Rattle.sbl_history.specs.Desks.{state_of}
 use Rattle.sbl_work.specs.Serving.{WorkRepliesToInput}
 use Rattle.sbl_work.proofs.serving.serve.Given as goal
@@ -10,7 +10,7 @@ use Rattle.sbl_work.proofs.serving.serve.Given as goal
 abbrev pub invariant-loop-lines : goal.invariant-loop-lines
 invariant-loop-lines g l = record {
   work : WorkRepliesToInput l.prompt (input_of g.R.Source.left l.fn.lines) (input_of g.R.Source.left l.lines) (g.W.Sink.held l.fn.writer) (g.W.Sink.held l.writer) (contents_of l.fn.bench) (state_of l.fn.desk) (contents_of l.bench) (state_of l.desk);
-  fault : fault_of l.lines ≡ fault_of l.fn.lines;
+  fault : l.lines.fault ≡ l.fn.lines.fault;
   feeds : TakesFeeds g.R.Source.left l.fn.lines l.lines;
   read : (g.R.Source.tally l.lines.reader).failures ≡ (g.R.Source.tally l.fn.lines.reader).failures;
   written : (g.W.Sink.tally l.writer).failures ≡ (g.W.Sink.tally l.fn.writer).failures;

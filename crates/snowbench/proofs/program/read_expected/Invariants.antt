@@ -1,12 +1,12 @@
 use Rattle.std.proofs.Common.{◌≡◌, List, ℕ}
 use Rattle.snowbench.specs.WholeCheck.{list_text}
-use Rattle.sbl_io.specs.HeldInput.{AllFit, KeepsTime, Took, fault_of, fuel_of, input_of, reads_bound}
+use Rattle.sbl_io.specs.HeldInput.{AllFit, KeepsTime, Took, fuel_of, input_of, reads_bound}
 use Rattle.snowbench.proofs.program.read_expected.Given as goal
 
 -- the lines so far, which were read in time
 abbrev pub invariant-loop-stems : goal.invariant-loop-stems
 invariant-loop-stems g l = (taken : List (List ℕ)) × AllFit taken × Took (input_of g.R.Source.left l.fn.lines) (input_of g.R.Source.left l.lines) taken
-    × (l.stems.items ≡ list_text taken) × (fault_of l.lines ≡ fault_of l.fn.lines)
+    × (l.stems.items ≡ list_text taken) × (l.lines.fault ≡ l.fn.lines.fault)
     × ((g.R.Source.tally l.lines.reader).failures ≡ (g.R.Source.tally l.fn.lines.reader).failures)
     × (reads_bound g.R.Source.tally l.lines ≡ reads_bound g.R.Source.tally l.fn.lines)
     × KeepsTime g.R.Source.tally l.fn.lines l.lines

@@ -1,6 +1,6 @@
 use Rattle.std.proofs.Common.{◌≡◌, ◌≢◌, ◌∙◌, ◌++◌, [], ◌∷◌, refl, rules, sym, subst, ap, List, ℕ}
 use Rattle.std.proofs.lemmas.Result.{err_from_is_err_and}
-use Rattle.sbl_io.specs.HeldInput.{GivesLine, fault_of, input_of, line_of}
+use Rattle.sbl_io.specs.HeldInput.{GivesLine, input_of, line_of}
 use Rattle.sbl_io.proofs.Bytes.{took-kept, took-none, took-trans}
 use Rattle.sbl_reports.specs.Block.{BlockLines, point}
 use Rattle.sbl_reports.proofs.BlockFacts.{all_fit-push, broken_block, no_point-push}
@@ -16,7 +16,7 @@ returns-in_err-next_line-clause-reads g c = λ none.
     let so = c.loop-text.invariant in
     let p = err_from_is_err_and c.from_residual.result c.from_residual.ensures.1 in
     rw (p.1, p.2) (words_broken _ _ c.in_err-next_line.field-0.0
-    (broken_block BlockLines (input_of left c.args.lines.now) (input_of left c.loop-text.lines) (input_of left c.next_line.new.self) (fault_of c.loop-text.lines) so.0 (line_of c.next_line.new.self) c.in_err-next_line.field-0.0
+    (broken_block BlockLines (input_of left c.args.lines.now) (input_of left c.loop-text.lines) (input_of left c.next_line.new.self) c.loop-text.lines.fault so.0 (line_of c.next_line.new.self) c.in_err-next_line.field-0.0
     so.1 so.2 (so.4 ∙ none) c.in_err-next_line.ensures.long c.in_err-next_line.ensures.cut))
 
 pub returns-in_err-push_line-clause-reads : goal.returns-in_err-push_line-clause-reads
