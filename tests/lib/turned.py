@@ -81,6 +81,7 @@ fn main(rt: HostRuntime) -> io::Result<()> {
 
 def equations(path):
     """Yields the head of each equation of a file: what is before its ` = `, and each branch of an `elim`."""
+    head = ""
     with open(os.path.join(TOP, path), encoding="utf-8") as file:
         for line in file:
             line = line.rstrip("\n")
@@ -89,8 +90,9 @@ def equations(path):
             found = re.match(r" {0,2}((?:[a-z_A-Z.]+ )[^=]*?|[a-z_]+) =( |$)", line) or re.match(r"  (\| .*) ↦ ", line)
             if found:
                 yield found[1]
-                if "elim" in line and " = " in line:
-                    yield from ("%s | %s" % (found[1].split()[0], branch) for branch in re.findall(r"[\[|] ([^\[\]|↦]+) ↦ ", line))
+                head = found[1].split()[0]
+            if found and "elim" in line and " = " in line or line.lstrip().startswith("elim "):
+                yield from ("%s | %s" % (head, branch) for branch in re.findall(r"[\[|] ([^\[\]|↦]+) ↦ ", line))
 
 
 def uncovered(pairs):

@@ -55,8 +55,7 @@ TookSource old new external s = TookText old new (λ text. IsScriptOf text exter
 
 -- A script block was taken, and with this external its text has this fault; or the text is not too long and an allocation failed.
 abbrev pub TookFault : Option (List ℕ) → Option (List ℕ) → List ℕ → ScriptFault → Type 0
-TookFault old new external f =
-    TookText old new (λ text. ((f ≡ script.OutOfMemory) × (length text ≤ max_script)) ⊎ IsFaultOf text external f)
+TookFault old new external f = TookText old new (λ text. ((f ≡ script.OutOfMemory) × (length text ≤ max_script)) ⊎ IsFaultOf text external f)
 
 -- An input is a script block that is read as this script with this external, followed by these words.
 abbrev pub IsInput : Option (List ℕ) → Option (List ℕ) → List ℕ → Source → List (List ℕ) → Type 0

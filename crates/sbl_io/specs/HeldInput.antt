@@ -108,8 +108,7 @@ BreaksOff old new part = Consumes old new part × AllByRecursion (λ b. b ≢ 10
 abbrev pub Took : Option (List ℕ) → Option (List ℕ) → List (List ℕ) → Type 0
 Took None new lines = ⊤
 Took (Some bytes) None lines = ⊥
-Took (Some bytes) (Some rest) lines =
-    (prefix : List ℕ) × (bytes ≡ prefix ++ rest) × (AreWhole prefix ⊎ (rest ≡ [])) × (lines_of prefix ≡ lines)
+Took (Some bytes) (Some rest) lines = (prefix : List ℕ) × (bytes ≡ prefix ++ rest) × (AreWhole prefix ⊎ (rest ≡ [])) × (lines_of prefix ≡ lines)
 
 -- the first line was taken
 abbrev pub GivesLine : Option (List ℕ) → Option (List ℕ) → List ℕ → Type 0

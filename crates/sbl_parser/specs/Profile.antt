@@ -7,6 +7,5 @@ use Rattle.sbl_token.specs.declared.signs.Sign.TheVariants as signs
 
 -- the token occurs in no tree
 abbrev pub is_left_out : Lexeme → Bool
-is_left_out t =
-    list_any (same_lexeme t)
+is_left_out t = list_any (same_lexeme t)
     (word words.Get ∷ word words.Reverse ∷ word words.Size ∷ word words.SizeOf ∷ sign signs.Question ∷ sign signs.EqualsGreater ∷ [])

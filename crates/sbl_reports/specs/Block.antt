@@ -34,8 +34,7 @@ TookBlock old new lines = BlockLines lines × Took old new (lines ++ point ∷ [
 -- Lines were taken, and no line follows them: the input ended, the next line is too long, or the reader stopped in it.
 abbrev pub Breaks : (List (List ℕ) → Type 0) → Option (List ℕ) → Option (List ℕ) → ServeFault → Type 0
 Breaks Good old new fault.Cut = (lines : List (List ℕ)) × Good lines × Took old new lines × IsAtEnd new
-Breaks Good old new fault.LineTooLong =
-    (lines : List (List ℕ)) × (next : Option (List ℕ)) × Good lines × Took old next lines × BeginsLong next
+Breaks Good old new fault.LineTooLong = (lines : List (List ℕ)) × (next : Option (List ℕ)) × Good lines × Took old next lines × BeginsLong next
 Breaks Good old new fault.Read =
     (lines : List (List ℕ)) × (next : Option (List ℕ)) × (part : List ℕ) × Good lines × Took old next lines × BreaksOff next new part
 Breaks Good old new f = ⊥

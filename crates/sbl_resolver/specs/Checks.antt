@@ -74,8 +74,7 @@ abbrev pub fault_of_definition : ℕ → (DeclarationKind → Bool) → Option D
 fault_of_definition item is_allowed kind site =
     if not (is_some kind) then Some (fault.Undeclared item) else
     if not (option_map_or is_allowed kind false) then Some (fault.WrongKind item) else
-    if is_earlier item site then Some (fault.DefinedTwice item) else
-    None
+    if is_earlier item site then Some (fault.DefinedTwice item) else None
 
 -- a routine or grouping without a definition; for a term of a grouping: without a definition in an earlier item
 abbrev pub lacks_definition : Use → ℕ → Option DeclarationKind → Option Site → Bool
@@ -89,18 +88,13 @@ fault_of_use p u kind site =
     if not (is_some kind) then Some (fault.Undeclared p.item) else
     if not (option_map_or (may_be u) kind false) then Some (fault.WrongKind p.item) else
     if lacks_definition u p.item kind site then Some (fault.Undefined p.item) else
-    if option_map_or is_routine kind false && option_map_or (λ q. not (is_mode p.mode q.mode)) site false then Some (fault.WrongMode p.item) else
-    None
+    if option_map_or is_routine kind false && option_map_or (λ q. not (is_mode p.mode q.mode)) site false then Some (fault.WrongMode p.item) else None
 
 -- the first among, substring or end of a region in these occurrences is an among of this mode
 abbrev pub is_followed : Mode → List Occurrence → Bool
 is_followed mode [] = false
-is_followed mode (m ∷ ms) = elim m.notice [
-  | among has_starter is_empty ↦ is_mode mode m.site.mode
-  | substring ↦ false
-  | region_end ↦ false
-  | _ ↦ is_followed mode ms
-]
+is_followed mode (m ∷ ms) =
+    elim m.notice [ among has_starter is_empty ↦ is_mode mode m.site.mode | substring ↦ false | region_end ↦ false | _ ↦ is_followed mode ms ]
 
 -- after these occurrences a substring is still without its among
 abbrev pub is_awaited : List Occurrence → Bool → Bool
@@ -123,8 +117,7 @@ fault_at all before m after = elim m.notice [
   -- it has a starter and is paired with a substring; or it has no string
   | among has_starter is_empty ↦
       if has_starter && is_awaited before false then Some (fault.Starter m.site.item) else
-      if is_empty then Some (fault.EmptyAmong m.site.item) else
-      None
+      if is_empty then Some (fault.EmptyAmong m.site.item) else None
   -- an earlier string of the same among has the same characters
   | string k text ↦ if list_any (is_text_of m.site.item k text) before then Some (fault.RepeatedString m.site.item) else None
   -- in backward mode

@@ -70,8 +70,7 @@ IsUnread w ts end f =
 -- from the tree of the tokens
 abbrev pub IsFaultIn : (w : Text) → Directives → (TreeOf w → List Item) → List ℕ → List ℕ → ScriptFault → Type 0
 IsFaultIn w s around external text f =
-    IsTextFault s text f
-    ⊎ ((ts : List PlacedToken) × HasTokens s text ts × IsUnread w ts (length text) f)
+    IsTextFault s text f ⊎ ((ts : List PlacedToken) × HasTokens s text ts × IsUnread w ts (length text) f)
     ⊎ ((ts : List PlacedToken) × HasTokens s text ts × (first_left_out ts ≡ None)
     × ((tree : TreeOf w) × IsReadAs w (lexemes ts) tree × (fault_of (around tree) external ≡ Some f)))
 

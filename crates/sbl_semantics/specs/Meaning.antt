@@ -85,8 +85,7 @@ joined_does And a b m s = after (a m s) (λ t. then_on (put_back m (saved_cursor
 -- limit is restored
 abbrev pub limited_does : Doing → Doing → Doing
 limited_does a b m s =
-    after (a m s)
-    (λ t. then_on (put_back m (saved_cursor s) (set_limit m t.cursor (length t.text - t.cursor) t))
+    after (a m s) (λ t. then_on (put_back m (saved_cursor s) (set_limit m t.cursor (length t.text - t.cursor) t))
     (λ u. at_end (λ signal. set_limit m s.left s.beyond) (b m u))) (Signals false)
 
 -- commands of a single word; `substring` does the search of the next among; backwards `[` sets the right end of the slice,
@@ -219,8 +218,7 @@ module _ (call : List ℕ → Doing) where
       then_on (place_after m (saved_cursor from) (length o.string) s) (λ a.
       after (option_map_or (λ n. pay_first (call n) m a) o.condition (Signals true a))
       (λ b. then_on (place_after m (saved_cursor from) (length o.string) b)
-      (λ c. Signals true (conclude_search k (Some (length o.string)) (Some o.group) c)))
-      next)
+      (λ c. Signals true (conclude_search k (Some (length o.string)) (Some o.group) c))) next)
 
   -- Tries the entries whose strings are a prefix of x, longest first, and of each length the first entry only. The last
   -- argument is one more than the longest length to try. The state `from` is the one in which the search began. If no
@@ -242,8 +240,7 @@ module _ (call : List ℕ → Doing) where
 
 -- a test of a grouping touches it, whatever the result
 abbrev pub tests : DeclaredNames → (List ℕ → ℕ → Bool) → Bool → List ℕ → Doing
-tests ns class wanted n m s =
-    one_of wanted (class n) m (record s { touched = with_touch (Tested (place_of (ns kinds.Groupings) n)) s.touched })
+tests ns class wanted n m s = one_of wanted (class n) m (record s { touched = with_touch (Tested (place_of (ns kinds.Groupings) n)) s.touched })
 
 module _ (ns : DeclaredNames) (class : List ℕ → ℕ → Bool) (call : List ℕ → Doing) where
   -- a name alone: a string variable, a boolean, a grouping, or else a routine to call
@@ -251,8 +248,7 @@ module _ (ns : DeclaredNames) (class : List ℕ → ℕ → Bool) (call : List �
   name_does n m s =
       if is_member (ns kinds.Strings) n then match (slice_index_or s.strings (place_of (ns kinds.Strings) n) []) m s else
       if is_member (ns kinds.Booleans) n then Signals (slice_index_or s.booleans (place_of (ns kinds.Booleans) n) false) s else
-      if is_member (ns kinds.Groupings) n then tests ns class true n m s else
-      call n m s
+      if is_member (ns kinds.Groupings) n then tests ns class true n m s else call n m s
 
   -- searches the among at landmark i of a routine with these landmarks, or that of the `substring` there; f if there is none
   abbrev pub search_at : List Landmark → ℕ → Doing
@@ -280,8 +276,7 @@ module _ (ns : DeclaredNames) (class : List ℕ → ℕ → Bool) (call : List �
       act r i (compare_values_ e o f) m s = compared_does (worth ns e m s) o (worth ns f m s) s
       act r i (among_ st gs) m s =
           let before = take i ls in
-          after
-          (if ends_in_substring before then Signals true s
+          after (if ends_in_substring before then Signals true s
           else after (pay_first (search_at ls i) m s) (starter_does r (i + 1) st m) (Signals false))
           (λ t. option_map_or (λ g. group_does r (i + 1 + length (landmarks_in_starter r st)) gs g m t)
           (slice_index_or t.choices (amongs_in before) None) (Signals false t)) (Signals false)

@@ -20,8 +20,7 @@ match string m s = move_if (starts_with nat_eq (ahead m s) (read_as m string)) (
 
 -- a grouping moves over one character of its class, `non` over one that is not in it
 abbrev pub one_of : Bool → (ℕ → Bool) → Mode → State → Ending
-one_of wanted class m s =
-    move_if (option_map_or (λ c. if wanted then class c else not (class c)) (slice_get (ahead m s) 0) false) 1 m s
+one_of wanted class m s = move_if (option_map_or (λ c. if wanted then class c else not (class c)) (slice_get (ahead m s) 0) false) 1 m s
 
 -- `hop` moves over this many characters, and `next` over one; a negative number signals f
 abbrev pub hop : Option ℕ → Mode → State → Ending
@@ -38,8 +37,7 @@ abbrev pub to_mark : Option ℕ → Mode → State → Ending
 to_mark None m s = Signals false s
 to_mark (Some n) Forward s =
     if nat_le s.cursor n && nat_le (n + s.beyond) (length s.text) then Signals true (record s { cursor = n }) else Signals false s
-to_mark (Some n) Backward s =
-    if nat_le s.left n && nat_le n s.cursor then Signals true (record s { cursor = n }) else Signals false s
+to_mark (Some n) Backward s = if nat_le s.left n && nat_le n s.cursor then Signals true (record s { cursor = n }) else Signals false s
 
 -- ---- names for parts of these definitions, which the interpreter and proofs use
 

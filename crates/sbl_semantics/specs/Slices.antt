@@ -35,8 +35,7 @@ replace_slice string s =
 
 -- `<- S`; `delete` is `<- ''`
 abbrev pub replace : List ℕ → State → Ending
-replace string s =
-    on_slice s
+replace string s = on_slice s
     (if nat_le (length s.text + length string - (s.ket - s.bra)) max_text_length then Signals true (replace_slice string s) else Stops TooLong s)
 
 -- `-> s` copies the slice to a string variable

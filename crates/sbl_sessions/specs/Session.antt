@@ -61,8 +61,7 @@ pub record IsSession (old new : Moment) (result : Result (Unit {0}) ServeFault) 
 
 -- The lines have returned this fault before: the session returns it again, and does nothing.
 abbrev pub ReturnsAgain : LineFault → Moment → Moment → Result (Unit {0}) ServeFault → Type 0
-ReturnsAgain f old new result =
-    (result ≡ Err (serve_fault_of f)) × (new.bench ≡ old.bench) × Keeps old.held new.held × Keeps old.input new.input
+ReturnsAgain f old new result = (result ≡ Err (serve_fault_of f)) × (new.bench ≡ old.bench) × Keeps old.held new.held × Keeps old.input new.input
 
 -- Why a session may end. A fault of reading or writing is caused by the device or a bound, or the lines returned it before. A
 -- line that is too long, or a block that the end of input cuts off, is in the input, as defined above.

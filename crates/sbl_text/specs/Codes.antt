@@ -20,8 +20,7 @@ is_scalar c = nat_lt c 0xD800 || (nat_le 0xE000 c && nat_le c 0x10FFFF)
 abbrev pub code_of : ℕ → ℕ → List ℕ → Option ℕ
 code_of base most ds =
     if (nat_lt 0 (length ds) && nat_le (length ds) most) && (list_all (λ d. nat_lt (digit_value d) base) ds && is_scalar (value_in base 0 ds))
-    then Some (value_in base 0 ds)
-    else None
+    then Some (value_in base 0 ds) else None
 
 -- ---- numbers separated by white space
 

@@ -18,8 +18,7 @@ use Rattle.sbl_text.specs.Escapes.{opens, closes}
 abbrev pub is_inner : Option Inserts → Bool → List ℕ → Bool
 is_inner e inside [] = not inside
 is_inner e true (c ∷ cs) = is_inner e (not (closes e c)) cs
-is_inner e false (c ∷ cs) =
-    if c == quote || c == line_feed then false else is_inner e (opens e c) cs
+is_inner e false (c ∷ cs) = if c == quote || c == line_feed then false else is_inner e (opens e c) cs
 
 abbrev pub is_one_of : List Shape → Shape → Bool
 is_one_of ks k = list_any (sameb shapes.the_type k) ks
