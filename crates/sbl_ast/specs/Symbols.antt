@@ -55,9 +55,8 @@ beside d x pairs = unwrap_or (option_map (λ p. p.1) (find (λ p. sameb d p.0 x)
 
 abbrev pub declares : DeclarationKind → Lexeme
 declares x = beside declaration_type x
-    ((declarations.Booleans, word w.Booleans) ∷ (declarations.Externals, word w.Externals) ∷
-    (declarations.Groupings, word w.Groupings) ∷ (declarations.Integers, word w.Integers) ∷
-    (declarations.Routines, word w.Routines) ∷ (declarations.Strings, word w.Strings) ∷ [])
+    ((declarations.Booleans, word w.Booleans) ∷ (declarations.Externals, word w.Externals) ∷ (declarations.Groupings, word w.Groupings) ∷
+    (declarations.Integers, word w.Integers) ∷ (declarations.Routines, word w.Routines) ∷ (declarations.Strings, word w.Strings) ∷ [])
 
 abbrev pub base : Base → Lexeme
 base x = beside base_type x ((bases.Decimal, word w.Decimal) ∷ (bases.Hex, word w.Hex) ∷ [])
@@ -85,8 +84,7 @@ move x = beside move_type x ((moves.AtMark, word w.AtMark) ∷ (moves.Hop, word 
 
 abbrev pub naming : Naming → Lexeme
 naming x = beside naming_type x
-    ((namings.Set, word w.Set) ∷ (namings.SetMark, word w.SetMark) ∷ (namings.Unset, word w.Unset) ∷
-    (namings.Arrow, sign s.Arrow) ∷ [])
+    ((namings.Set, word w.Set) ∷ (namings.SetMark, word w.SetMark) ∷ (namings.Unset, word w.Unset) ∷ (namings.Arrow, sign s.Arrow) ∷ [])
 
 abbrev pub splice : Splice → Lexeme
 splice x = beside splice_type x
@@ -97,14 +95,12 @@ abbrev pub additive : Additive → Lexeme
 additive x = beside additive_type x ((additives.Plus, sign s.Plus) ∷ (additives.Minus, sign s.Minus) ∷ [])
 
 abbrev pub multiplicative : Multiplicative → Lexeme
-multiplicative x = beside multiplicative_type x
-    ((multiplicatives.Times, sign s.Star) ∷ (multiplicatives.Over, sign s.Slash) ∷ [])
+multiplicative x = beside multiplicative_type x ((multiplicatives.Times, sign s.Star) ∷ (multiplicatives.Over, sign s.Slash) ∷ [])
 
 abbrev pub assigns : Assignment → Lexeme
 assigns x = beside assignment_type x
-    ((assignments.Equals, sign s.Equals) ∷ (assignments.Plus, sign s.PlusEquals) ∷
-    (assignments.Minus, sign s.MinusEquals) ∷ (assignments.Times, sign s.StarEquals) ∷
-    (assignments.Over, sign s.SlashEquals) ∷ [])
+    ((assignments.Equals, sign s.Equals) ∷ (assignments.Plus, sign s.PlusEquals) ∷ (assignments.Minus, sign s.MinusEquals) ∷
+    (assignments.Times, sign s.StarEquals) ∷ (assignments.Over, sign s.SlashEquals) ∷ [])
 
 abbrev pub compares : Comparison → Lexeme
 compares x = beside comparison_type x

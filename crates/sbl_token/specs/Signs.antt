@@ -8,11 +8,10 @@ use Rattle.sbl_token.specs.declared.signs.Sign.TheVariants as sign
 -- each sign with its text
 abbrev pub signs : List (Sign × List ℕ)
 signs =
-    (sign.Open, codes "(") ∷ (sign.Close, codes ")") ∷ (sign.LeftBracket, codes "[") ∷ (sign.RightBracket, codes "]") ∷
-    (sign.Dollar, codes "$") ∷ (sign.Plus, codes "+") ∷ (sign.Minus, codes "-") ∷ (sign.Star, codes "*") ∷
-    (sign.Slash, codes "/") ∷ (sign.Equals, codes "=") ∷ (sign.Question, codes "?") ∷ (sign.Less, codes "<") ∷
-    (sign.Greater, codes ">") ∷ (sign.Same, codes "==") ∷ (sign.Differs, codes "!=") ∷ (sign.AtMost, codes "<=") ∷
-    (sign.AtLeast, codes ">=") ∷ (sign.LessMinus, codes "<-") ∷ (sign.LessPlus, codes "<+") ∷ (sign.Arrow, codes "->") ∷
+    (sign.Open, codes "(") ∷ (sign.Close, codes ")") ∷ (sign.LeftBracket, codes "[") ∷ (sign.RightBracket, codes "]") ∷ (sign.Dollar, codes "$") ∷
+    (sign.Plus, codes "+") ∷ (sign.Minus, codes "-") ∷ (sign.Star, codes "*") ∷ (sign.Slash, codes "/") ∷ (sign.Equals, codes "=") ∷
+    (sign.Question, codes "?") ∷ (sign.Less, codes "<") ∷ (sign.Greater, codes ">") ∷ (sign.Same, codes "==") ∷ (sign.Differs, codes "!=") ∷
+    (sign.AtMost, codes "<=") ∷ (sign.AtLeast, codes ">=") ∷ (sign.LessMinus, codes "<-") ∷ (sign.LessPlus, codes "<+") ∷ (sign.Arrow, codes "->") ∷
     (sign.PlusEquals, codes "+=") ∷ (sign.MinusEquals, codes "-=") ∷ (sign.StarEquals, codes "*=") ∷ (sign.SlashEquals, codes "/=") ∷
     (sign.EqualsGreater, codes "=>") ∷ []
 
