@@ -59,8 +59,7 @@ TookFault old new external f = TookText old new (λ text. ((f ≡ script.OutOfMe
 
 -- An input is a script block that is read as this script with this external, followed by these words.
 abbrev pub IsInput : Option (List ℕ) → Option (List ℕ) → List ℕ → Source → List (List ℕ) → Type 0
-IsInput old new external s words =
-    (between : Option (List ℕ)) × TookSource old between external s × TookWords between new words
+IsInput old new external s words = (between : Option (List ℕ)) × TookSource old between external s × TookWords between new words
 
 -- An input is a script block that is read as a script with this external, followed by something else.
 abbrev pub AfterSource : Option (List ℕ) → List ℕ → (Option (List ℕ) → Type 0) → Type 0
@@ -86,8 +85,7 @@ IsLoadFault old new external (Input f) = Breaks BlockLines old new f ⊎ AfterSo
 
 -- The result of loading: the bench of the script and the words, or why there is none.
 abbrev pub IsLoaded : {B : Type 0} → Option (List ℕ) → Option (List ℕ) → List ℕ → (B → Contents) → Result B LoadFault → Type 0
-IsLoaded old new external state (Ok bench) =
-    (s : Source) × (words : List (List ℕ)) × IsInput old new external s words
+IsLoaded old new external state (Ok bench) = (s : Source) × (words : List (List ℕ)) × IsInput old new external s words
     × (opening_fault [] (map chars words) ≡ None) × (state bench ≡ opening_contents s (map chars words))
 IsLoaded old new external state (Err f) = IsLoadFault old new external f
 

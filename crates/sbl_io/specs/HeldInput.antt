@@ -63,8 +63,7 @@ module _ {R : Type 0} where
 
   -- the reader has failed since, or was read up to the limit, or was interrupted more than 1,000 times in a row
   abbrev pub HasCause : (R → Tally) → Lines R → Lines R → Type 0
-  HasCause tally old new =
-      ((tally old.reader).failures < (tally new.reader).failures) ⊎ (reads_bound tally old ≤ (tally new.reader).reads)
+  HasCause tally old new = ((tally old.reader).failures < (tally new.reader).failures) ⊎ (reads_bound tally old ≤ (tally new.reader).reads)
       ⊎ (max_tries ≤ (tally new.reader).interruptions)
 
   -- No read was late, and none will be: the lines know if the reader has returned its end, and they stop at the limit

@@ -33,19 +33,16 @@ StopsAt t before rest = IsPrefix t before × HasNoneTooDeep t before × CannotFo
 
 -- after `$` and a name the tokens end: if there were more, an operator would be missing
 abbrev pub IsSyntaxAt : Text → List Lexeme → List Lexeme → Type 0
-IsSyntaxAt t all rest =
-    (before : List Lexeme) × (all ≡ before ++ rest) × StopsAt t before rest
+IsSyntaxAt t all rest = (before : List Lexeme) × (all ≡ before ++ rest) × StopsAt t before rest
     × ((prefix : List Lexeme) (n : List ℕ) → before ≡ prefix ++ sign signs.Dollar ∷ name n ∷ [] → rest ≡ [])
 
 -- the first token of the rest is too deep, and none before it
 abbrev pub IsTooDeepAt : Text → List Lexeme → List Lexeme → Type 0
-IsTooDeepAt t all rest =
-    (before : List Lexeme) × (first : Lexeme) × (more : List Lexeme) × (rest ≡ first ∷ more) × (all ≡ before ++ rest)
+IsTooDeepAt t all rest = (before : List Lexeme) × (first : Lexeme) × (more : List Lexeme) × (rest ≡ first ∷ more) × (all ≡ before ++ rest)
     × HasNoneTooDeep t before × IsTooDeep t before first
 
 -- the rest begins with the `$` and the name before the token that is not an operator
 abbrev pub IsOutOfProfileAt : Text → List Lexeme → List Lexeme → Type 0
-IsOutOfProfileAt t all rest =
-    (before : List Lexeme) × (subject : List ℕ) × (bad : Lexeme) × (more : List Lexeme)
+IsOutOfProfileAt t all rest = (before : List Lexeme) × (subject : List ℕ) × (bad : Lexeme) × (more : List Lexeme)
     × (rest ≡ sign signs.Dollar ∷ name subject ∷ bad ∷ more) × (all ≡ before ++ rest)
     × StopsAt t (before ++ sign signs.Dollar ∷ name subject ∷ []) (bad ∷ more)

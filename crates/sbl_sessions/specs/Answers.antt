@@ -70,7 +70,6 @@ IsReplyTo s (HasNoText f) memory text t = IsReport s (Some (edit_text (Some (fau
 -- memory of each request in turn.
 abbrev pub Answers : Contents → List Request → List Memory → List ℕ → Contents → Type 0
 Answers s [] [] text t = Tells s [] text t
-Answers s (request ∷ requests) (memory ∷ m) text t =
-    (first : List ℕ) × (next : Contents) × (rest : List ℕ)
+Answers s (request ∷ requests) (memory ∷ m) text t = (first : List ℕ) × (next : Contents) × (rest : List ℕ)
     × IsReplyTo s (command_of request) memory first next × Answers next requests m rest t × (text ≡ first ++ rest)
 Answers s requests m text t = ⊥

@@ -33,8 +33,7 @@ insertion_value e name =
 
 -- an opening character, a name without a closing character, and a closing character
 abbrev pub IsInsertion : InForce → List ℕ → List ℕ → Type 0
-IsInsertion e x name =
-    (a : ℕ) × (b : ℕ) × (x ≡ a ∷ (name ++ b ∷ []))
+IsInsertion e x name = (a : ℕ) × (b : ℕ) × (x ≡ a ∷ (name ++ b ∷ []))
     × (a == quote ≡ false) × (opens e.inserts a ≡ true) × (closes e.inserts b ≡ true) × (list_all (λ c. not (closes e.inserts c)) name ≡ true)
 
 -- a character that means itself
@@ -66,8 +65,7 @@ IsWrong e text place f =
 
 -- the first fault of a spelling that begins at this byte offset
 abbrev pub FirstWrong : InForce → List ℕ → ℕ → ScriptFault → Type 0
-FirstWrong e spelling place f =
-    (before : List ℕ) × (rest : List ℕ) × (ps : List Part) × (spelling ≡ before ++ rest)
+FirstWrong e spelling place f = (before : List ℕ) × (rest : List ℕ) × (ps : List Part) × (spelling ≡ before ++ rest)
     × AreParts e spelling ps rest × IsWrong e rest (place + byte_length before) f
 
 -- each insertion has an end, and there is no line feed outside of insertions

@@ -55,8 +55,7 @@ pub record Piece : Type 0 where
 -- state before them, t the state after them.
 abbrev pub AreCut : Directives → List ℕ → List Piece → Directives → List ℕ → Type 0
 AreCut s text [] t rest = (text ≡ rest) × (s ≡ t)
-AreCut s text (p ∷ ps) t rest =
-    (following : List ℕ) × (text ≡ p.text ++ following) × IsPiece (setting_of s) p.shape p.text following
+AreCut s text (p ∷ ps) t rest = (following : List ℕ) × (text ≡ p.text ++ following) × IsPiece (setting_of s) p.shape p.text following
     × MatchOption p.lexeme (is_gap p.shape ≡ true) (Says s p.shape p.text) × AreCut (option_map_or (after s) p.lexeme s) following ps t rest
 
 -- the lexemes of the pieces, in order
@@ -113,8 +112,7 @@ fault_at _ text place =
 -- a number that is too large, a literal with a bad insertion, or a literal that gives no value to its macro
 abbrev pub IsRefused : Directives → Shape → List ℕ → ℕ → ScriptFault → Type 0
 IsRefused s shape.Number x place f = (2147483647 < number_of x) × (f ≡ fault.NumberTooLarge place)
-IsRefused s shape.Literal x place f =
-    (inner : List ℕ) × (x ≡ quote ∷ (inner ++ quote ∷ []))
+IsRefused s shape.Literal x place f = (inner : List ℕ) × (x ≡ quote ∷ (inner ++ quote ∷ []))
     × (FirstWrong s.escapes inner (place + 1) f
     ⊎ ((v : List ℕ) × Means s.escapes inner v × (value_for s.defining v ≡ None) × (f ≡ fault.BadCode place)))
 IsRefused s _ x place f = ⊥
@@ -127,8 +125,7 @@ IsFault s text place f =
 
 -- the first fault of a text: the pieces before it have no fault, and its position is the number of bytes before it
 abbrev pub IsFirstFaultFrom : Directives → List ℕ → ScriptFault → Type 0
-IsFirstFaultFrom s text f =
-    (before : List ℕ) × (rest : List ℕ) × (ps : List Piece) × (t : Directives) × (text ≡ before ++ rest)
+IsFirstFaultFrom s text f = (before : List ℕ) × (rest : List ℕ) × (ps : List Piece) × (t : Directives) × (text ≡ before ++ rest)
     × AreCut s text ps t rest × IsFault t rest (byte_length before) f
 
 abbrev pub IsFirstFault : List ℕ → ScriptFault → Type 0
