@@ -14,7 +14,8 @@ use Rattle.sbl_resolver.specs.declared.occurrences.Site.{Site}
 use Rattle.sbl_resolver.specs.declared.occurrences.Use.{Use}
 use Rattle.sbl_semantics.specs.Items.{body_named}
 use Rattle.sbl_semantics.specs.Outcome.{touches_of}
-use Rattle.sbl_semantics.specs.TouchedItems.{Item', item_of_touch, names_of}
+use Rattle.sbl_semantics.specs.TouchedItems.{item_of_touch, names_of}
+use Rattle.sbl_ast.specs.NamedParts.{Part'}
 
 abbrev pub PassesChecks : Source → Type 0
 PassesChecks script = WellDeclared script.items script.external
@@ -43,5 +44,5 @@ abbrev pub grouping_number : List Item → List ℕ → ℕ
 grouping_number items n = number_of (names_in items).groupings n
 
 -- the run of a word touches none of the picked items
-abbrev pub TouchesNone : (Item' → Bool) → Source → List ℕ → ℕ → Type 0
+abbrev pub TouchesNone : (Part' → Bool) → Source → List ℕ → ℕ → Type 0
 TouchesNone picked s word limit = list_any picked (map (item_of_touch (names_of s)) (touches_of s word limit)) ≡ false

@@ -6,7 +6,8 @@ ghost use Rattle.sbl_ast.specs.Source.{Source};
 ghost use Rattle.sbl_rows.specs.Setting.{Setting, under};
 ghost use Rattle.sbl_machine.specs.BuiltFrom.{is_affected_by};
 ghost use Rattle.sbl_semantics.specs.Outcome.{events_of};
-ghost use Rattle.sbl_semantics.specs.TouchedItems.{Item', touched_items};
+ghost use Rattle.sbl_semantics.specs.TouchedItems.{touched_items};
+ghost use Rattle.sbl_ast.specs.NamedParts.{Part'};
 ghost use Rattle.sbl_explain.specs.Unused.{unused_rows};
 ghost use Rattle.sbl_explain.specs.Used.{Usable, Whole, number_using, rows_using, takes_of, uses};
 ghost use Rattle.law_tests.specs.Uses.{MissesWhatDiffers, rows_of_zeros};
@@ -31,15 +32,15 @@ pub fn needs_unused_have_number_zero()
 
 /// Needs the whole of the law `uses_agree_with_traces`.
 pub fn needs_uses_agree_with_traces()
-    ensures { (s : Setting) (w : List ℕ) (x : Item') → uses s w (Whole x) ≡ list_any (is_affected_by s.script x) (touched_items s.script w s.limit) }
+    ensures { (s : Setting) (w : List ℕ) (x : Part') → uses s w (Whole x) ≡ list_any (is_affected_by s.script x) (touched_items s.script w s.limit) }
 {
     uses_agree_with_traces();
 }
 
 /// Needs the whole of the law `takes_stay`.
 pub fn needs_takes_stay()
-    ensures events { (s t : Source) (xs : List Item') (w : List ℕ) (l : ℕ) → MissesWhatDiffers s t xs w l → events_of t w l ≡ events_of s w l }
-    ensures takes { (s t : Source) (xs : List Item') (w : List ℕ) (l : ℕ) → MissesWhatDiffers s t xs w l → takes_of (under t l) w ≡ takes_of (under s l) w }
+    ensures events { (s t : Source) (xs : List Part') (w : List ℕ) (l : ℕ) → MissesWhatDiffers s t xs w l → events_of t w l ≡ events_of s w l }
+    ensures takes { (s t : Source) (xs : List Part') (w : List ℕ) (l : ℕ) → MissesWhatDiffers s t xs w l → takes_of (under t l) w ≡ takes_of (under s l) w }
 {
     takes_stay();
 }

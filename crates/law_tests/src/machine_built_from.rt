@@ -1,7 +1,7 @@
 //! Laws of sbl_machine (specs/BuiltFrom.antt), written out.
 
 ghost use Rattle.sbl_resolver.specs.Checks.{WellDeclared};
-ghost use Rattle.sbl_semantics.specs.TouchedItems.{Item'};
+ghost use Rattle.sbl_ast.specs.NamedParts.{Part'};
 ghost use Rattle.sbl_ast.specs.Source.{Source};
 ghost use Rattle.sbl_machine.specs.BuiltFrom.{IsClosed, is_affected_by};
 
@@ -9,7 +9,7 @@ use sbl_machine::laws::affected_is_closed;
 
 /// Needs the whole of the law `affected_is_closed`.
 pub fn needs_affected_is_closed()
-    ensures { (s : Source) → WellDeclared s.items s.external → (x : Item') → IsClosed (is_affected_by s x) s }
+    ensures { (s : Source) → WellDeclared s.items s.external → (x : Part') → IsClosed (is_affected_by s x) s }
 {
     affected_is_closed();
 }

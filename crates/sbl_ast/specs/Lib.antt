@@ -10,6 +10,7 @@ pub mod Texts
 pub mod Counts
 pub mod Amongs
 pub mod Replacement
+pub mod NamedParts
 -- what the functions inside the crate promise each other; no public contract depends on these
 pub mod WalkEnds
 pub mod Terminal

@@ -20,7 +20,7 @@ use Rattle.sbl_rows.specs.ChangedRows.{changed_rows}
 use Rattle.sbl_rows.specs.Changes.{Change, changes_of, view_changes}
 use Rattle.sbl_script.specs.Reading.{IsFaultOf, IsScriptOf}
 use Rattle.sbl_semantics.specs.Differs.{differs}
-use Rattle.sbl_semantics.specs.TouchedItems.{Item'}
+use Rattle.sbl_ast.specs.NamedParts.{Part'}
 use Rattle.sbl_text.specs.declared.fault.ScriptFault.{ScriptFault}
 use Rattle.sbl_text.specs.declared.fault.ScriptFault.TheVariants as script
 use Rattle.sbl_tree_diff.specs.ItemsIn.{items_in}
@@ -30,7 +30,7 @@ use Rattle.sbl_tree_diff.specs.ItemsIn.{items_in}
 -- The items in which the scripts differ, or none if they differ in more than bodies of routines and terms of groupings; what changes
 -- from the rows of the old script to those of the new one; the number of words, and of words with another outcome.
 pub record Comparison : Type 0 where
-  pub differing : Option (List Item')
+  pub differing : Option (List Part')
   pub changes : List Change
   pub words : ℕ
   pub changed : ℕ
@@ -54,7 +54,7 @@ compare_status changed = if changed == 0 then 0 else 1
 
 -- ---- its rows
 
-unfoldable pub item_row : Item' → List (List ℕ)
+unfoldable pub item_row : Part' → List (List ℕ)
 item_row item = codes "differs" ∷ item_fields item
 
 unfoldable pub script_row : List (List ℕ)
@@ -64,7 +64,7 @@ unfoldable pub words_row : ℕ → ℕ → List (List ℕ)
 words_row words changed = codes "words" ∷ decimal words ∷ decimal changed ∷ []
 
 -- a row for each item; one row if the scripts differ in more
-abbrev pub differs_rows : Option (List Item') → List (List (List ℕ))
+abbrev pub differs_rows : Option (List Part') → List (List (List ℕ))
 differs_rows None = script_row ∷ []
 differs_rows (Some items) = map item_row items
 

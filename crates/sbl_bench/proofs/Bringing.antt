@@ -6,7 +6,6 @@ use Rattle.std.proofs.Math.Path.{fun_ext}
 use Rattle.std.proofs.lemmas.Bool.{true≢false}
 use Rattle.std.proofs.lemmas.Bool.Decides.{nat_tests}
 use Rattle.sbl_resolver.specs.Checks.{WellDeclared}
-use Rattle.sbl_script.specs.Edits.{ScriptEdit}
 use Rattle.sbl_ast.specs.Source.{Source}
 use Rattle.sbl_script.specs.Reading.{IsScriptOf}
 use Rattle.sbl_semantics.specs.declared.touch.Touch.{Touch}
@@ -17,8 +16,8 @@ use Rattle.sbl_machine.specs.DifferLaws.{DifferingStay, OneMeets}
 use Rattle.sbl_machine.specs.Frame.{StaysAsItWas, UntouchedStay}
 use Rattle.sbl_machine.specs.Marks.{AreMarksOf, EditedAreThere, has_item}
 use Rattle.sbl_semantics.specs.Outcome.{touches_of, used_of}
-use Rattle.sbl_semantics.specs.TouchedItems.{Item', item_of_touch, names_of}
-use Rattle.sbl_machine.specs.EditedItem.{edited_item}
+use Rattle.sbl_semantics.specs.TouchedItems.{item_of_touch, names_of}
+use Rattle.sbl_ast.specs.NamedParts.{Part'}
 use Rattle.sbl_bench.specs.inside.AffectedWords.{AffectedWords, AreMet, Touching, Above, smaller}
 use Rattle.sbl_bench.specs.inside.Changes.{Brings, IsExchange, IsTaken}
 use Rattle.sbl_bench.specs.Contents.{Contents}
@@ -34,7 +33,7 @@ any_mapped f test [] = refl
 any_mapped f test (x ∷ xs) = ap (λ (b : Bool). test (f x) || b) (any_mapped f test xs)
 
 -- a run meets one of these items if it touches one of their marks
-pub met_by_marks : (s : Source) (xs : List Item') (marks : List Touch) → AreMarksOf s xs marks → AreMet s (Some xs) (Touching marks)
+pub met_by_marks : (s : Source) (xs : List Part') (marks : List Touch) → AreMarksOf s xs marks → AreMet s (Some xs) (Touching marks)
 unfolding meets_one
 met_by_marks s xs marks are limit w =
     any_mapped (item_of_touch (names_of s)) (affected_by s xs) (touches_of s w limit)
@@ -43,8 +42,8 @@ met_by_marks s xs marks are limit w =
 stays_same : (s t : Source) (w : List ℕ) (limit : ℕ) → StaysAsItWas s t w limit → RunsSame (under s limit) (under t limit) w
 stays_same s t w limit h = record { outcome = h.alike.outcome; touches = h.touches; used = h.alike.used }
 
-pub taken_brings : UntouchedStay → OneMeets → (s : Contents) (e : ScriptEdit) (text : List ℕ) (t : Source) (x : Item') → IsTaken s e text t x → WellDeclared s.setting.script.items s.setting.script.external
-    → (a : AffectedWords) → AreMet s.setting.script (Some (edited_item e ∷ [])) a → Brings s (Replace e text) (under t s.setting.limit) a
+pub taken_brings : UntouchedStay → OneMeets → (s : Contents) (e : Part') (text : List ℕ) (t : Source) (x : Part') → IsTaken s e text t x → WellDeclared s.setting.script.items s.setting.script.external
+    → (a : AffectedWords) → AreMet s.setting.script (Some (e ∷ [])) a → Brings s (Replace e text) (under t s.setting.limit) a
 taken_brings law alone s e text t x is well a met =
     let p = s.setting.script in
     let l = s.setting.limit in
@@ -54,23 +53,23 @@ taken_brings law alone s e text t x is well a met =
       wants = λ word same. cc same;
       words = refl;
       met_is = λ w. met l w;
-      stays = λ w h. stays_same p t w l (law p t e text well is.edited w l (sym (alone (edited_item e) p w l) ∙ met l w ∙ h));
+      stays = λ w h. stays_same p t w l (law p t e text well is.edited w l (sym (alone e p w l) ∙ met l w ∙ h));
     }
 
 -- the same by the words that are affected by a list of this item alone
-pub edited_brings : UntouchedStay → OneMeets → EditedAreThere → (s : Contents) (e : ScriptEdit) (text : List ℕ) (t : Source) (x : Item') → IsTaken s e text t x → WellDeclared s.setting.script.items s.setting.script.external
-    → (xs : List Item') → xs ≡ x ∷ [] → (a : AffectedWords) → (list_all (has_item (names_of s.setting.script)) xs ≡ true → AreMet s.setting.script (Some xs) a)
+pub edited_brings : UntouchedStay → OneMeets → EditedAreThere → (s : Contents) (e : Part') (text : List ℕ) (t : Source) (x : Part') → IsTaken s e text t x → WellDeclared s.setting.script.items s.setting.script.external
+    → (xs : List Part') → xs ≡ x ∷ [] → (a : AffectedWords) → (list_all (has_item (names_of s.setting.script)) xs ≡ true → AreMet s.setting.script (Some xs) a)
     → Brings s (Replace e text) (under t s.setting.limit) a
 edited_brings law one there s e text t x is well xs alone a met =
     let p = s.setting.script in
-    let same : xs ≡ edited_item e ∷ [] = alone ∙ ap (λ (y : Item'). y ∷ []) is.replaces in
-    let all : list_all (has_item (names_of p)) (edited_item e ∷ []) ≡ true = ap (λ (b : Bool). b && true) (there p t e text is.edited) in
-    let known : list_all (has_item (names_of p)) xs ≡ true = subst (λ (ys : List Item'). list_all (has_item (names_of p)) ys ≡ true) (sym same) all in
-    taken_brings law one s e text t x is well a (subst (λ (ys : List Item'). AreMet p (Some ys) a) same (met known))
+    let same : xs ≡ e ∷ [] = alone ∙ ap (λ (y : Part'). y ∷ []) is.replaces in
+    let all : list_all (has_item (names_of p)) (e ∷ []) ≡ true = ap (λ (b : Bool). b && true) (there p t e text is.edited) in
+    let known : list_all (has_item (names_of p)) xs ≡ true = subst (λ (ys : List Part'). list_all (has_item (names_of p)) ys ≡ true) (sym same) all in
+    taken_brings law one s e text t x is well a (subst (λ (ys : List Part'). AreMet p (Some ys) a) same (met known))
 
 -- ---- whole scripts
 
-exchanged_stay : DifferingStay → (s t : Source) (limit : ℕ) → WellDeclared s.items s.external → (xs : Option (List Item')) → differs s t ≡ xs → (w : List ℕ)
+exchanged_stay : DifferingStay → (s t : Source) (limit : ℕ) → WellDeclared s.items s.external → (xs : Option (List Part')) → differs s t ≡ xs → (w : List ℕ)
     → meets_listed xs s w limit ≡ false → RunsSame (under s limit) (under t limit) w
 exchanged_stay law s t limit well None is w h = absurd (true≢false h)
 exchanged_stay law s t limit well (Some xs) is w h = stays_same s t w limit (law s t xs well is w limit h)

@@ -6,7 +6,8 @@ use Rattle.sbl_rows.specs.Setting.{Setting}
 use Rattle.sbl_machine.specs.BuiltFrom.{meets}
 use Rattle.sbl_machine.specs.DifferLaws.{OneMeets}
 use Rattle.sbl_machine.specs.Marks.{has_item}
-use Rattle.sbl_semantics.specs.TouchedItems.{Item', Names'}
+use Rattle.sbl_semantics.specs.TouchedItems.{Names'}
+use Rattle.sbl_ast.specs.NamedParts.{Part'}
 use Rattle.sbl_bench.specs.inside.KeptEntries.{AreFresh, KeptWord, words_in}
 use Rattle.sbl_bench.specs.Traces.{rows_meeting}
 use Rattle.sbl_bench.specs.inside.AffectedWords.{AffectedWords, AreMet}
@@ -35,16 +36,16 @@ one_shown a before more es rest all e so split on next =
     ∙ ap (λ (l : List KeptWord). before ++ shown_rows a l) (sym split) ∙ so
 
 -- a script that defines an item defines each of a list of this item alone
-pub one_there : (names : Names') (x : Item') → has_item names x ≡ true → list_all (has_item names) (x ∷ []) ≡ true
+pub one_there : (names : Names') (x : Part') → has_item names x ≡ true → list_all (has_item names) (x ∷ []) ≡ true
 one_there names x h = rw h refl
 
 -- a run that is kept is affected exactly if a fresh one meets the item
-meets_fresh : OneMeets → (s : Setting) (e : KeptWord) (x : Item') (a : AffectedWords) → AreMet s.script (Some (x ∷ [])) a → AreFresh s (e ∷ [])
+meets_fresh : OneMeets → (s : Setting) (e : KeptWord) (x : Part') (a : AffectedWords) → AreMet s.script (Some (x ∷ [])) a → AreFresh s (e ∷ [])
     → is_met a e ≡ meets x s.script e.0.items s.limit
 meets_fresh alone s e x a met fresh = met_fresh s a e fresh.0 ∙ sym (met s.limit e.0.items) ∙ alone x s.script e.0.items s.limit
 
 -- the rows that are shown_rows are those of the words whose runs meet the item
-pub shown_meeting : OneMeets → (s : Setting) (es : List KeptWord) (x : Item') (a : AffectedWords) → AreFresh s es → AreMet s.script (Some (x ∷ [])) a
+pub shown_meeting : OneMeets → (s : Setting) (es : List KeptWord) (x : Part') (a : AffectedWords) → AreFresh s es → AreMet s.script (Some (x ∷ [])) a
     → shown_rows a es ≡ rows_meeting s (words_in es) x
 shown_meeting alone s [] x a fresh met = refl
 shown_meeting alone s (e ∷ es) x a fresh met = by (is_met a e) refl (shown_meeting alone s es x a fresh.1 met)

@@ -1,6 +1,7 @@
 -- What an edit of the script that is refused for its name, its number or its text answers.
 use Rattle.std.proofs.Common.{◌≡◌, ◌⊎◌, ℕ, List, Result, Ok, Err, inl, inr, refl, sym}
-use Rattle.sbl_script.specs.Edits.{ScriptEdit, IsEditFault, text_for}
+use Rattle.sbl_ast.specs.NamedParts.{Part'}
+use Rattle.sbl_script.specs.Edits.{IsEditFault, text_for}
 use Rattle.sbl_script.specs.declared.edit_fault.EditFault as declared
 use Rattle.sbl_script.specs.declared.edit_fault.EditFault.TheVariants as script
 use Rattle.sbl_bench.specs.declared.fault.EditFault.{EditFault}
@@ -28,7 +29,7 @@ not_among r out missing = cc
 not_made : {A : Type 0} (r : Result A declared.EditFault) (a : A) (f : declared.EditFault) → r ≡ Ok a → r ≡ Err f → ⊥
 not_made r a f made missing = cc
 
-module _ {A : Type 0} (s : Contents) (what : ScriptEdit) (text : List ℕ) (r : Result A declared.EditFault)
+module _ {A : Type 0} (s : Contents) (what : Part') (text : List ℕ) (r : Result A declared.EditFault)
     (missing : (f : declared.EditFault) → text_for s.setting.script.items what ≡ Err f → r ≡ Err f) where
   -- where memory was refused, it is for its text that the edit is refused, if it is
   for_its_text : (g : declared.EditFault) (f : EditFault) → r ≡ Err script.OutOfMemory → IsEditFault s.setting.script what text g → f ≡ fault_of_script g → IsOfText f

@@ -2,7 +2,8 @@
 use Rattle.std.proofs.Common.{◌≡◌, ◌∙◌, ℕ, Bool, true, false, cond, List, [], ◌∷◌, Some, None, is_some, refl, sym, ap, subst}
 use Rattle.std.specs.Str.{bytes_eq}
 use Rattle.std.proofs.lemmas.Slice.Eq.{bytes_eq-Decides}
-use Rattle.sbl_semantics.specs.TouchedItems.{Item', items_of, names_of, touched_items}
+use Rattle.sbl_semantics.specs.TouchedItems.{items_of, names_of, touched_items}
+use Rattle.sbl_ast.specs.NamedParts.{Part'}
 use Rattle.sbl_machine.specs.declared.outcome.RunTrace.{RunTrace}
 use Rattle.sbl_rows.specs.Setting.{Setting}
 use Rattle.sbl_bench.specs.inside.KeptEntries.{KeptWord, AreFresh, IsFresh, words_in}
@@ -36,7 +37,7 @@ pub not_there : (word : List ℕ) (es : List KeptWord) → None ≡ find word es
 not_there word es is = sym (found_word word es) ∙ ap is_some (sym is)
 
 -- the items of its touches are its trace
-pub trace_found : (script : Setting) (word : List ℕ) (es : List KeptWord) (t : RunTrace) (items : List Item') → AreFresh script es → Some t ≡ find word es
+pub trace_found : (script : Setting) (word : List ℕ) (es : List KeptWord) (t : RunTrace) (items : List Part') → AreFresh script es → Some t ≡ find word es
     → items ≡ items_of (names_of script.script) t.touches.items → Some items ≡ trace_of script (words_in es) word
 unfolding touched_items
 trace_found script word es t items fresh is of =

@@ -8,7 +8,8 @@ use Rattle.sbl_machine.specs.BuiltFrom.{meets_one}
 use Rattle.sbl_semantics.specs.Differs.{differs}
 use Rattle.sbl_machine.specs.DifferLaws.{AlikeDifferNowhere}
 use Rattle.sbl_semantics.specs.Outcome.{touches_of}
-use Rattle.sbl_semantics.specs.TouchedItems.{Item', item_of_touch, names_of}
+use Rattle.sbl_semantics.specs.TouchedItems.{item_of_touch, names_of}
+use Rattle.sbl_ast.specs.NamedParts.{Part'}
 use Rattle.sbl_rows.specs.Classes.{classes_of}
 use Rattle.sbl_bench.specs.Contents.{Contents}
 use Rattle.sbl_bench.specs.Edits.{Edit, Add, Remove, Words, Replace, Whole, Limit, IsSettingAfter, is_of_script, runs_needed}
@@ -64,7 +65,7 @@ meets_none s w limit = none_any (map (item_of_touch (names_of s)) (touches_of s 
 nothing_met : AlikeDifferNowhere → (p q : Source) (limit : ℕ) → q ≡ p → (w : List ℕ) → meets_listed (differs p q) p w limit ≡ false
 nothing_met law p q limit same w =
     ap (λ (x : Source). meets_listed (differs p x) p w limit) same
-    ∙ ap (λ (xs : Option (List Item')). meets_listed xs p w limit) (law p)
+    ∙ ap (λ (xs : Option (List Part')). meets_listed xs p w limit) (law p)
     ∙ meets_none p w limit
 
 none_filtered : (met : List ℕ → Bool) (words : List (List ℕ)) → ((w : List ℕ) → met w ≡ false) → length (filter met words) ≡ 0

@@ -6,7 +6,9 @@ use Rattle.std.specs.Option.{option_map_or}
 use Rattle.std.specs.Str.{bytes_eq}
 use Rattle.sbl_script.specs.declared.edit_fault.EditFault as declared
 use Rattle.sbl_script.specs.declared.edit_fault.EditFault.TheVariants as script
-use Rattle.sbl_script.specs.Edits.{ScriptEdit, body, among, terms, IsEdited, IsEditFault}
+use Rattle.sbl_ast.specs.NamedParts.{Part'}
+use Rattle.sbl_ast.specs.NamedParts as parts
+use Rattle.sbl_script.specs.Edits.{IsEdited, IsEditFault}
 use Rattle.sbl_script.specs.Reading.{IsScriptOf, IsFaultOf}
 use Rattle.sbl_text.specs.declared.fault.ScriptFault.{ScriptFault}
 use Rattle.sbl_semantics.specs.Limit.{max_word_length}
@@ -16,7 +18,6 @@ use Rattle.sbl_bench.specs.Vocabulary.{is_word, vocabulary, without}
 use Rattle.sbl_machine.specs.BuiltFrom.{meets_one}
 use Rattle.sbl_semantics.specs.Differs.{differs}
 use Rattle.sbl_semantics.specs.Outcome.{used_of}
-use Rattle.sbl_machine.specs.EditedItem.{edited_item}
 use Rattle.sbl_bench.specs.declared.fault.EditFault.{EditFault}
 use Rattle.sbl_bench.specs.declared.fault.EditFault.TheVariants as fault
 
@@ -25,21 +26,21 @@ use Rattle.sbl_bench.specs.declared.fault.EditFault.TheVariants as fault
 pub data Edit : Type 0 where
   Add Remove : List ℕ → Edit
   Words : List (List ℕ) → Edit
-  Replace : ScriptEdit → List ℕ → Edit
+  Replace : Part' → List ℕ → Edit
   Whole : List ℕ → Edit
   Limit : ℕ → Edit
 
 -- the body of the routine of this name is replaced
 abbrev pub Routine : List ℕ → List ℕ → Edit
-Routine name text = Replace (body name) text
+Routine name text = Replace (parts.Routine name) text
 
 -- the among of this number in the routine of this name is replaced
 abbrev pub Among : List ℕ → ℕ → List ℕ → Edit
-Among name k text = Replace (among name k) text
+Among name k text = Replace (parts.Among name k) text
 
 -- the terms of the grouping of this name are replaced
 abbrev pub Grouping : List ℕ → List ℕ → Edit
-Grouping name text = Replace (terms name) text
+Grouping name text = Replace (parts.Grouping name) text
 
 -- ---- refusals of an edit
 
@@ -106,7 +107,7 @@ abbrev pub needs_run : Contents → Edit → Setting → List ℕ → Bool
 needs_run s (Add word) t w = bytes_eq word w
 needs_run s (Remove word) t w = false
 needs_run s (Words ws) t w = not (is_word w s.words)
-needs_run s (Replace what text) t w = meets_one (edited_item what ∷ []) s.setting.script w s.setting.limit
+needs_run s (Replace what text) t w = meets_one (what ∷ []) s.setting.script w s.setting.limit
 needs_run s (Limit n) t w = nat_lt (min s.setting.limit n) (used_of s.setting.script w s.setting.limit)
 needs_run s e t w = option_map_or (λ items. meets_one items s.setting.script w s.setting.limit) (differs s.setting.script t.script) true
 

@@ -2,7 +2,6 @@
 
 ghost use Rattle.std.specs.Prelude.{◌≡◌, ◌≤◌, ◌<◌, ◌+◌, ◌^◌, ℕ, List, MatchOption, IfErr, IfOk, OnOk, true, false};
 ghost use Rattle.sbl_bench.specs.Edits.{is_limit};
-ghost use Rattle.sbl_machine.specs.EditedItem.{edited_item};
 ghost use Rattle.sbl_script.specs.Parts.{view_part};
 ghost use Rattle.sbl_semantics.specs.TouchedItems.{item_of};
 
@@ -34,7 +33,7 @@ impl Bench {
     ghost use Rattle.sbl_bench.specs.LeavesChanges.{LeavesChanges};
     ghost use Rattle.sbl_rows.specs.Setting.{under};
     ghost use Rattle.sbl_semantics.specs.TouchedItems.{item_of};
-    ghost use Rattle.sbl_script.specs.Edits.{ScriptEdit};
+    ghost use Rattle.sbl_ast.specs.NamedParts.{Part'};
     ghost use Rattle.sbl_script.specs.ParsedScript.{source_of};
     ghost use Rattle.sbl_script.specs.Parts.{view_part};
 
@@ -265,8 +264,8 @@ impl Bench {
         item: &Item,
         break_off: &mut B,
     ) -> Result<(), EditFault>
-        requires { (e : ScriptEdit) × (t : List ℕ) × IsTaken (contents self.old) e t (source_of script) (item_of item.now) }
-        ensures edits { (e : ScriptEdit) (t : List ℕ) → IsTaken (contents self.old) e t (source_of script) (item_of item.now) → EditsOrBreaks result (contents self.old) (Replace e t) (contents self.new) }
+        requires { (e : Part') × (t : List ℕ) × IsTaken (contents self.old) e t (source_of script) (item_of item.now) }
+        ensures edits { (e : Part') (t : List ℕ) → IsTaken (contents self.old) e t (source_of script) (item_of item.now) → EditsOrBreaks result (contents self.old) (Replace e t) (contents self.new) }
         ensures changes { LeavesChanges result self.old self.new }
         ensures untold { OnOk result (B.said break_off.new ≡ B.said break_off.old) }
         ensures told { IfErr result (λ f. BreaksIfTold (B.said break_off.old) (B.said break_off.new) f) }
@@ -350,7 +349,7 @@ fn limit_of(number: u64) -> Option<u32>
 
 /// Returns the item that a part is. Returns `AllocError` if an allocation fails.
 fn item_at(alloc: Global, part: Part<'_>) -> Result<Item, AllocError>
-    ensures { IfOk result (λ item. item_of item ≡ edited_item (view_part part.entry)) }
+    ensures { IfOk result (λ item. item_of item ≡ view_part part.entry) }
 {
     match part {
         Part::Routine(name) => Ok(Item::Routine(String::from_str(alloc, name)?)),

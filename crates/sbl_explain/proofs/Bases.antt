@@ -6,7 +6,8 @@ use Rattle.std.specs.Str.{bytes_eq}
 use Rattle.sbl_machine.specs.BuiltFrom.{is_affected_by, and_built, any_names, built_from}
 use Rattle.sbl_machine.specs.inside.BuiltFromParts.{names}
 use Rattle.sbl_machine.specs.inside.BuiltFromParts.{built_after, built_on}
-use Rattle.sbl_semantics.specs.TouchedItems.{Item', Routine, Among, Grouping, same_item}
+use Rattle.sbl_semantics.specs.TouchedItems.{same_item}
+use Rattle.sbl_ast.specs.NamedParts.{Part', Routine, Among, Grouping}
 use Rattle.sbl_semantics.specs.Items.{is_member}
 use Rattle.sbl_ast.specs.Source.{Source}
 use Rattle.sbl_ast.specs.Order.{ItemInMode, in_order}
@@ -93,22 +94,22 @@ built_any (m ∷ ns) a ts = built_more m ns a ts ∙ ap (λ (b : Bool). built_on
 
 -- ---- what is reached from touched items by a walk from the last definition to the first
 
-abbrev pub is_reached : List Item' → List ItemInMode → Item' → Bool
+abbrev pub is_reached : List Part' → List ItemInMode → Part' → Bool
 is_reached us [] x = list_any (same_item x) us
 is_reached us (p ∷ ps) x = and_terms p.plain (is_reached us ps) x
 
-pub same_terms : (p : Plain) (f g : Item' → Bool) → ((y : Item') → f y ≡ g y) → (x : Item') → and_terms p f x ≡ and_terms p g x
+pub same_terms : (p : Plain) (f g : Part' → Bool) → ((y : Part') → f y ≡ g y) → (x : Part') → and_terms p f x ≡ and_terms p g x
 same_terms (grouping r a ts) f g e x = ap₂ (λ (b c : Bool). (b && built_on (λ k. same_item x (Grouping k)) a ts) || c) (e (Grouping r)) (e x)
 same_terms (declaration k ns) f g e x = e x
 same_terms (escapes a b) f g e x = e x
 same_terms (macro n b q) f g e x = e x
 same_terms (routine n c os) f g e x = e x
 
-module _ (us : List Item') where
-  nothing : (f : Item' → Bool) (r : List ℕ) (a : Argument) (ts : List Term) (c : Bool) → ((f (Grouping r) && built_on (λ k. false) a ts) || c) ≡ c
+module _ (us : List Part') where
+  nothing : (f : Part' → Bool) (r : List ℕ) (a : Argument) (ts : List Term) (c : Bool) → ((f (Grouping r) && built_on (λ k. false) a ts) || c) ≡ c
   nothing f r a ts c = ap (λ (b : Bool). (f (Grouping r) && b) || c) (not_built a ts) ∙ ap (λ (b : Bool). b || c) (and_false (f (Grouping r)))
 
-  routine_at : (p : Plain) (f : Item' → Bool) (n : List ℕ) → and_terms p f (Routine n) ≡ f (Routine n)
+  routine_at : (p : Plain) (f : Part' → Bool) (n : List ℕ) → and_terms p f (Routine n) ≡ f (Routine n)
   routine_at (grouping r a ts) f n = nothing f r a ts (f (Routine n))
   routine_at (declaration k ns) f n = refl
   routine_at (escapes a b) f n = refl
@@ -119,7 +120,7 @@ module _ (us : List Item') where
   routine_is [] n = refl
   routine_is (p ∷ ps) n = routine_at p.plain (is_reached us ps) n ∙ routine_is ps n
 
-  among_at : (p : Plain) (f : Item' → Bool) (n : List ℕ) (k : ℕ) → and_terms p f (Among n k) ≡ f (Among n k)
+  among_at : (p : Plain) (f : Part' → Bool) (n : List ℕ) (k : ℕ) → and_terms p f (Among n k) ≡ f (Among n k)
   among_at (grouping r a ts) f n k = nothing f r a ts (f (Among n k))
   among_at (declaration x ns) f n k = refl
   among_at (escapes a b) f n k = refl
@@ -154,12 +155,12 @@ among_any : (ns : List (List ℕ)) (n : List ℕ) → is_member ns n ≡ list_an
 among_any [] n = refl
 among_any (k ∷ ns) n = if_or (bytes_eq k n) (is_member ns n) ∙ ap (λ (b : Bool). bytes_eq k n || b) (among_any ns n)
 
-affects_one : (s : Source) (m : List ℕ) (u : Item') → is_affected_by s (Grouping m) u ≡ list_any (λ k. same_item (Grouping k) u) (built_from m s)
+affects_one : (s : Source) (m : List ℕ) (u : Part') → is_affected_by s (Grouping m) u ≡ list_any (λ k. same_item (Grouping k) u) (built_from m s)
 affects_one s m (Routine n) = sym (none_of (built_from m s))
 affects_one s m (Among n k) = sym (none_of (built_from m s))
 affects_one s m (Grouping n) = among_any (built_from m s) n
 
-affects_is : (s : Source) (m : List ℕ) (us : List Item') → list_any (is_affected_by s (Grouping m)) us ≡ list_any (λ k. list_any (same_item (Grouping k)) us) (built_from m s)
+affects_is : (s : Source) (m : List ℕ) (us : List Part') → list_any (is_affected_by s (Grouping m)) us ≡ list_any (λ k. list_any (same_item (Grouping k)) us) (built_from m s)
 affects_is s m [] = sym (none_of (built_from m s))
 affects_is s m (u ∷ us) =
     ap₂ (λ (b c : Bool). b || c) (affects_one s m u) (affects_is s m us)
@@ -169,7 +170,7 @@ or_false : (b : Bool) → (b || false) ≡ b
 or_false true = refl
 or_false false = refl
 
-pub reached_is : (us : List Item') (s : Source) (x : Item') → is_reached us (in_order s.items) x ≡ list_any (is_affected_by s x) us
+pub reached_is : (us : List Part') (s : Source) (x : Part') → is_reached us (in_order s.items) x ≡ list_any (is_affected_by s x) us
 reached_is us s (Routine n) = routine_is us (in_order s.items) n
 reached_is us s (Among n k) = among_is us (in_order s.items) n k
 reached_is us s (Grouping m) =

@@ -12,7 +12,8 @@ use Rattle.sbl_ast.specs.declared.tree.DeclarationKind.{DeclarationKind}
 use Rattle.sbl_ast.specs.declared.tree.DeclarationKind.TheVariants as kinds
 use Rattle.sbl_machine.specs.Marks.{has_item}
 use Rattle.sbl_semantics.specs.Items.{is_member, known_in, names_by}
-use Rattle.sbl_semantics.specs.TouchedItems.{Item', Routine, Among, Grouping, Names'}
+use Rattle.sbl_semantics.specs.TouchedItems.{Names'}
+use Rattle.sbl_ast.specs.NamedParts.{Part', Routine, Among, Grouping}
 use Rattle.sbl_source_map.specs.Definitions.{defines_name}
 use Rattle.sbl_ast.specs.Amongs.{amongs_of_body}
 use Rattle.sbl_explain.specs.Counts.{usables_in, usables_of}
@@ -42,7 +43,7 @@ abbrev names_in : List ItemInMode → Names'
 names_in xs = record { routines = known_in xs kinds.Routines; groupings = known_in xs kinds.Groupings }
 
 -- an item of the others is one of all
-has_later : (x : ItemInMode) (xs : List ItemInMode) (y : Item') → has_item (names_in xs) y ≡ true → has_item (names_in (x ∷ xs)) y ≡ true
+has_later : (x : ItemInMode) (xs : List ItemInMode) (y : Part') → has_item (names_in xs) y ≡ true → has_item (names_in (x ∷ xs)) y ≡ true
 has_later x xs (Routine n) h = member_later (names_by kinds.Routines x.plain) (known_in xs kinds.Routines) n h
 has_later x xs (Among n k) h = member_later (names_by kinds.Routines x.plain) (known_in xs kinds.Routines) n h
 has_later x xs (Grouping n) h = member_later (names_by kinds.Groupings x.plain) (known_in xs kinds.Groupings) n h
@@ -61,7 +62,7 @@ all_append test (u ∷ us) vs h g = by (test u) (list_all test us) h (all_append
     by true b h rest = rest h g
     by false b h rest = cc h
 
-entries_defined : (names : Names') (x : Item') (strings : List (List ℕ)) → list_all (has_usable names) (map (λ q. Entry (x, q)) strings) ≡ true
+entries_defined : (names : Names') (x : Part') (strings : List (List ℕ)) → list_all (has_usable names) (map (λ q. Entry (x, q)) strings) ≡ true
 entries_defined names x [] = refl
 entries_defined names x (q ∷ strings) = entries_defined names x strings
 
@@ -100,7 +101,7 @@ flat_append f [] ys = refl
 flat_append f (x ∷ xs) ys = ap (λ l. f x ++ l) (flat_append f xs ys) ∙ sym (append_assoc (f x) (flat_map f xs) (flat_map f ys))
 
 -- the last of some items, if all of them are among the names
-all_defined : (names : Names') (xs : List ItemInMode) → ((y : Item') → has_item (names_in xs) y ≡ true → has_item names y ≡ true)
+all_defined : (names : Names') (xs : List ItemInMode) → ((y : Part') → has_item (names_in xs) y ≡ true → has_item names y ≡ true)
     → list_all (has_usable names) (flat_map usables_in (flat_map (λ (x : ItemInMode). parts_by x.plain) xs)) ≡ true
 all_defined names [] has = refl
 all_defined names (x ∷ xs) has =

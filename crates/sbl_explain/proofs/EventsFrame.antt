@@ -24,7 +24,8 @@ use Rattle.sbl_semantics.proofs.ByLandmarks.{telling_is}
 use Rattle.sbl_semantics.specs.inside.MeaningParts.{row_does}
 use Rattle.sbl_semantics.specs.Control.{pay_first, enter, leave}
 use Rattle.sbl_semantics.specs.State.{State, Ending, Signals, Stops, Doing, pay}
-use Rattle.sbl_semantics.specs.TouchedItems.{Item', Routine, Among, Grouping, names_of}
+use Rattle.sbl_semantics.specs.TouchedItems.{names_of}
+use Rattle.sbl_ast.specs.NamedParts.{Part', Routine, Among, Grouping}
 use Rattle.sbl_machine.proofs.Touching.{with_chosen, with_grows, not_then, replicate_index}
 use Rattle.sbl_machine.proofs.Stays.{pay_same}
 use Rattle.sbl_machine.proofs.FramePairs.{dirty, dirty_at, Grown, Within, WithinAt, Pair, Alike, grown_after, same_grown, same_pair, signals_pair, spoiled_pair, paid_alike}
@@ -89,7 +90,7 @@ module _ (is_marked : Touch → Bool) where
       (λ s w. leave_dirty s.routine s.choices (d m (enter j n s)) ((h (enter j n s)).up (with_chosen is_marked (Entered j) s.touched c)))
       (λ s w. leave_dirty s.routine s.choices (d' m (enter j n' s)) ((h' (enter j n' s)).up (with_chosen is_marked (Entered j) s.touched c)))
 
-module _ (picked : Item' → Bool) (items : List ItemInMode) (closed : AllByRecursion (λ x. IsClosedAt picked x.plain) items) where
+module _ (picked : Part' → Bool) (items : List ItemInMode) (closed : AllByRecursion (λ x. IsClosedAt picked x.plain) items) where
   abbrev ns : DeclaredNames
   ns = known_in items
 
@@ -162,25 +163,25 @@ Kin is_marked e e' = (e' ≡ e) ⊎ ((dirty_at is_marked e ≡ true) × (dirty_a
 abbrev run_on : ℕ → List ItemInMode → List ℕ → List ℕ → ℕ → Ending
 run_on l items external word limit = calls (known_in items) (char_class_of (classes_after items [])) (body_named items) l external Forward (start_with_events (known_in items) word limit)
 
-holed_run : (picked : Item' → Bool) (l : ℕ) (items : List ItemInMode) (external word : List ℕ) (limit : ℕ) →
+holed_run : (picked : Part' → Bool) (l : ℕ) (items : List ItemInMode) (external word : List ℕ) (limit : ℕ) →
     run_on l (holed_items picked items) external word limit
     ≡ calls (known_in items) (char_class_of (classes_after (holed_items picked items) [])) (body_named (holed_items picked items)) l external Forward (start_with_events (known_in items) word limit)
 holed_run picked l items external word limit =
     let bodies = body_named (holed_items picked items) in
     ap (λ ns. calls ns (char_class_of (classes_after (holed_items picked items) [])) bodies l external Forward (start_with_events ns word limit)) (known_same picked items)
 
-levels_kin : (picked : Item' → Bool) (l : ℕ) (s : Source) → IsClosed picked s → (word : List ℕ) (limit : ℕ) →
+levels_kin : (picked : Part' → Bool) (l : ℕ) (s : Source) → IsClosed picked s → (word : List ℕ) (limit : ℕ) →
     Kin (marked_by picked (names_of s)) (run_on l (in_order s.items) s.external word limit) (run_on l (in_order (holed_script picked s).items) s.external word limit)
 levels_kin picked l s closed word limit =
     subst (Kin (marked_by picked (names_of s)) (run_on l (in_order s.items) s.external word limit))
     (sym (ap (λ xs. run_on l xs s.external word limit) (order_holed picked s.items) ∙ holed_run picked l (in_order s.items) s.external word limit))
     (((calls_alike picked (in_order s.items) closed l 0 s.external).in_mode Forward).at (start_with_events (known_in (in_order s.items)) word limit) (record { here = refl; quiet = λ k c clear. refl })).kin
 
-regions_kin : (picked : Item' → Bool) (s : Source) → IsClosed picked s → (word : List ℕ) (limit : ℕ) → Kin (marked_by picked (names_of s)) (regions.ending_with_events s word limit) (regions.ending_with_events (holed_script picked s) word limit)
+regions_kin : (picked : Part' → Bool) (s : Source) → IsClosed picked s → (word : List ℕ) (limit : ℕ) → Kin (marked_by picked (names_of s)) (regions.ending_with_events s word limit) (regions.ending_with_events (holed_script picked s) word limit)
 unfolding regions.ending_with_events
 regions_kin picked s closed word limit = levels_kin picked 32 s closed word limit
 
-ending_kin : (picked : Item' → Bool) (s : Source) → IsClosed picked s → (word : List ℕ) (limit : ℕ) → Kin (marked_by picked (names_of s)) (ending_with_events s word limit) (ending_with_events (holed_script picked s) word limit)
+ending_kin : (picked : Part' → Bool) (s : Source) → IsClosed picked s → (word : List ℕ) (limit : ℕ) → Kin (marked_by picked (names_of s)) (ending_with_events s word limit) (ending_with_events (holed_script picked s) word limit)
 ending_kin picked s closed word limit =
     let is_marked = marked_by picked (names_of s) in
     let same = telling_is s word limit in
@@ -194,7 +195,7 @@ clear_kin is_marked e e' h clear = ⊎_elim (λ p. p) (λ d. absurd (true≢fals
 clear_back : (is_marked : Touch → Bool) (e e' : Ending) → Kin is_marked e e' → dirty_at is_marked e' ≡ false → e ≡ e'
 clear_back is_marked e e' h clear = ⊎_elim (λ p. sym p) (λ d. absurd (true≢false (sym d.1 ∙ clear))) h
 
-pub events_on : (picked : Item' → Bool) (s t : Source) → IsClosed picked s → AgreeOutside picked s t → (word : List ℕ) (limit : ℕ) → dirty_at (marked_by picked (names_of s)) (ending_with_events s word limit) ≡ false
+pub events_on : (picked : Part' → Bool) (s t : Source) → IsClosed picked s → AgreeOutside picked s t → (word : List ℕ) (limit : ℕ) → dirty_at (marked_by picked (names_of s)) (ending_with_events s word limit) ≡ false
     → ending_with_events t word limit ≡ ending_with_events s word limit
 events_on picked s t closed agree word limit clear =
     let is_marked = marked_by picked (names_of s) in

@@ -22,7 +22,8 @@ use Rattle.sbl_rows.specs.Setting.{Setting, under}
 use Rattle.sbl_rows.specs.declared.row.Row as declared
 use Rattle.sbl_semantics.specs.Differs.{differs}
 use Rattle.sbl_semantics.specs.Outcome.{touches_of}
-use Rattle.sbl_semantics.specs.TouchedItems.{Item', Names', item_of_touch, names_of}
+use Rattle.sbl_semantics.specs.TouchedItems.{Names', item_of_touch, names_of}
+use Rattle.sbl_ast.specs.NamedParts.{Part'}
 use Rattle.sbl_explain.specs.EventsStay.{TakesStay}
 use Rattle.sbl_explain.specs.Kept.{Agrees, AreKept, AreTakenBy, IsListOf, Misses, Names, StayOutside, has_taken, row_words, view_list}
 use Rattle.sbl_explain.specs.TakeNumbers.{number_kept}
@@ -69,7 +70,7 @@ module _ {X : Type 0} where
   any_or p q (x ∷ xs) = ap (λ (b : Bool). (p x || q x) || b) (any_or p q xs) ∙ or_cross (p x) (q x) (list_any p xs) (list_any q xs)
 
 -- a run meets one of some items if it meets one of them
-pub one_met : (s : Source) (w : List ℕ) (l : ℕ) (xs : List Item') → meets_one xs s w l ≡ list_any (λ (x : Item'). meets x s w l) xs
+pub one_met : (s : Source) (w : List ℕ) (l : ℕ) (xs : List Part') → meets_one xs s w l ≡ list_any (λ (x : Part'). meets x s w l) xs
 unfolding meets meets_one
 one_met s w l [] = any_none (map (item_of_touch (names_of s)) (touches_of s w l))
 one_met s w l (x ∷ xs) =
@@ -103,22 +104,22 @@ or_clear true b h = absurd (true≢false h)
 or_clear false b h = (refl, h)
 
 -- a word that is in none of the rows of an item does not meet it
-pub row_missed : (s : Setting) (words : List (List ℕ)) (x : Item') (rows : List declared.Row) (w : List ℕ) → map view_row rows ≡ rows_meeting s words x → is_word w words ≡ true
+pub row_missed : (s : Setting) (words : List (List ℕ)) (x : Part') (rows : List declared.Row) (w : List ℕ) → map view_row rows ≡ rows_meeting s words x → is_word w words ≡ true
     → list_any (bytes_eq w) (row_words rows) ≡ false → meets x s.script w s.limit ≡ false
 row_missed s words x rows w are there none =
     passing s (λ v. meets x s.script v s.limit) w words there
     (sym (ap (list_any (bytes_eq w)) (words_in_rows rows ∙ ap (map (λ (r : Row). r.word)) are)) ∙ none)
 
-same_uses : TakesStay → (s u : Setting) (xs : List Item') → WellDeclared s.script.items s.script.external → u.limit ≡ s.limit → differs s.script u.script ≡ Some xs → (w : List ℕ)
+same_uses : TakesStay → (s u : Setting) (xs : List Part') → WellDeclared s.script.items s.script.external → u.limit ≡ s.limit → differs s.script u.script ≡ Some xs → (w : List ℕ)
     → meets_one xs s.script w s.limit ≡ false → (t : Take) → uses u w (Entry t) ≡ uses s w (Entry t)
 same_uses stays s u xs well limits differ w clear t =
     ap (list_any (same_take t)) (ap (λ (l : ℕ). takes_of (under u.script l) w) limits ∙ stays s.script u.script xs well differ w s.limit clear)
 
-same_names : DifferingAgree → (s u : Setting) (xs : List Item') → WellDeclared s.script.items s.script.external → differs s.script u.script ≡ Some xs → routine_names u ≡ routine_names s
+same_names : DifferingAgree → (s u : Setting) (xs : List Part') → WellDeclared s.script.items s.script.external → differs s.script u.script ≡ Some xs → routine_names u ≡ routine_names s
 same_names agrees s u xs well differ =
     ap (λ (names : Names'). names.routines) (agree_names (affected_by s.script xs) s.script u.script (agrees s.script u.script xs well differ).1)
 
-pub stay_outside : TakesStay → DifferingAgree → (s u : Setting) (words : List (List ℕ)) (xs : List Item') (again : List ℕ → Bool) → WellDeclared s.script.items s.script.external → u.limit ≡ s.limit
+pub stay_outside : TakesStay → DifferingAgree → (s u : Setting) (words : List (List ℕ)) (xs : List Part') (again : List ℕ → Bool) → WellDeclared s.script.items s.script.external → u.limit ≡ s.limit
     → differs s.script u.script ≡ Some xs → Misses s words xs again → StayOutside s u words again
 stay_outside stays agrees s u words xs again well limits differ misses =
     (same_names agrees s u xs well differ, λ w there out. same_uses stays s u xs well limits differ w (misses w there out))

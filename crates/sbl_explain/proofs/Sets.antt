@@ -16,17 +16,18 @@ use Rattle.sbl_machine.proofs.TouchedOrder.{any_inserted, item_exact, or_again, 
 use Rattle.sbl_machine.specs.ItemRefs.{item_of_ref}
 use Rattle.sbl_machine.specs.contracts.item_ref.ItemRefOrd.TheImpl.{cmp-value}
 use Rattle.sbl_machine.specs.declared.item_ref.ItemRef.{ItemRef}
-use Rattle.sbl_semantics.specs.TouchedItems.{Item', Routine, Among, Grouping, item_cmp, same_item}
+use Rattle.sbl_semantics.specs.TouchedItems.{item_cmp, same_item}
+use Rattle.sbl_ast.specs.NamedParts.{Part', Routine, Among, Grouping}
 use Rattle.sbl_explain.specs.Unused.{Take, same_take}
 use Rattle.sbl_explain.specs.UnusedViews.{Key, take_of}
 
 -- ---- items
 
-pub item_added : (ks : List ItemRef) (k : ItemRef) (test : Item' → Bool) → list_any test (map item_of_ref (insert_key cmp-value.it ks k)) ≡ (test (item_of_ref k) || list_any test (map item_of_ref ks))
+pub item_added : (ks : List ItemRef) (k : ItemRef) (test : Part' → Bool) → list_any test (map item_of_ref (insert_key cmp-value.it ks k)) ≡ (test (item_of_ref k) || list_any test (map item_of_ref ks))
 item_added ks k test = ap (list_any test) (map_insert_ref ks k) ∙ any_inserted test (map item_of_ref ks) (item_of_ref k)
 
 -- the order finds two items equal exactly if they are the same
-item_cmp_eq : (x y : Item') → is_eq (item_cmp x y) ≡ same_item x y
+item_cmp_eq : (x y : Part') → is_eq (item_cmp x y) ≡ same_item x y
 item_cmp_eq (Routine m) (Routine n) = is_eq-slice_cmp m n
 item_cmp_eq (Routine m) (Among n l) = refl
 item_cmp_eq (Routine m) (Grouping n) = refl
@@ -52,7 +53,7 @@ key_order p q = ordering_then (cmp-value.it p.0 q.0) (slice_cmp nat_cmp p.1.item
 take_exact : (p q : Key) → key_order p q ≡ Equal → take_of p ≡ take_of q
 take_exact p q h =
     let both = then_equal (cmp-value.it p.0 q.0) (slice_cmp nat_cmp p.1.items q.1.items) h in
-    ap₂ (λ (x : Item') (s : List ℕ). (x, s)) (item_exact (item_of_ref p.0) (item_of_ref q.0) (sym (same_ref_order p.0 q.0) ∙ both.0)) (exact_bytes p.1.items q.1.items both.1)
+    ap₂ (λ (x : Part') (s : List ℕ). (x, s)) (item_exact (item_of_ref p.0) (item_of_ref q.0) (sym (same_ref_order p.0 q.0) ∙ both.0)) (exact_bytes p.1.items q.1.items both.1)
 
 pub take_added : (ks : List Key) (k : Key) (test : Take → Bool) → list_any test (map take_of (insert_key key_order ks k)) ≡ (test (take_of k) || list_any test (map take_of ks))
 take_added [] k test = refl

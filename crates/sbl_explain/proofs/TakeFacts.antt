@@ -9,7 +9,8 @@ use Rattle.std.specs.Map.{lookup}
 use Rattle.std.specs.Ordering.{is_eq, match_ordering}
 use Rattle.std.specs.declared.cmp.Ordering.{Ordering}
 use Rattle.std.specs.declared.cmp.Ordering.TheVariants.{Less, Equal, Greater}
-use Rattle.sbl_semantics.specs.TouchedItems.{Item', Routine, Among, Grouping, same_item}
+use Rattle.sbl_semantics.specs.TouchedItems.{same_item}
+use Rattle.sbl_ast.specs.NamedParts.{Part', Routine, Among, Grouping}
 use Rattle.sbl_explain.specs.TakeNumbers.{number_in, one_if}
 use Rattle.sbl_explain.specs.Used.{Take, same_take}
 use Rattle.sbl_explain.specs.UnusedViews.{Key, take_of}
@@ -23,7 +24,7 @@ both_true true true h = (refl, refl)
 both_true true false h = cc h
 both_true false b h = cc h
 
-same_item_is : (x y : Item') → same_item x y ≡ true → x ≡ y
+same_item_is : (x y : Part') → same_item x y ≡ true → x ≡ y
 same_item_is (Routine m) (Routine n) h = ap Routine ((bytes_eq-Decides m n).0 h)
 same_item_is (Among m k) (Among n l) h =
     let both = both_true _ _ h in

@@ -7,7 +7,8 @@ use Rattle.sbl_rows.specs.Setting.{Setting}
 use Rattle.sbl_bench.specs.Vocabulary.{is_word}
 use Rattle.sbl_machine.specs.BuiltFrom.{is_affected_by, meets}
 use Rattle.sbl_semantics.specs.Outcome.{touches_of}
-use Rattle.sbl_semantics.specs.TouchedItems.{Item', item_of_touch, names_of, touched_items}
+use Rattle.sbl_semantics.specs.TouchedItems.{item_of_touch, names_of, touched_items}
+use Rattle.sbl_ast.specs.NamedParts.{Part'}
 use Rattle.sbl_machine.proofs.TouchedOrder.{any_ordered}
 use Rattle.std.specs.Borrow.{Bor}
 use Rattle.std.proofs.lemmas.List.{drop-map}
@@ -44,11 +45,11 @@ any_popped f test (y ∷ ys) x rest =
 pub word_first : (w : List ℕ) (words : List (List ℕ)) → is_word w (w ∷ words) ≡ true
 word_first w words = ap (λ (b : Bool). b || is_word w words) ((bytes_eq-Decides w w).1 refl)
 
-pub met_one : (s : Setting) (x : Item') (w : List ℕ) → list_any (is_affected_by s.script x) (touched_items s.script w s.limit) ≡ meets x s.script w s.limit
+pub met_one : (s : Setting) (x : Part') (w : List ℕ) → list_any (is_affected_by s.script x) (touched_items s.script w s.limit) ≡ meets x s.script w s.limit
 unfolding meets touched_items
 met_one s x w = any_ordered (is_affected_by s.script x) (map (item_of_touch (names_of s.script)) (touches_of s.script w s.limit))
 
-pub met_words : (s : Setting) (x : Item') (words : List (List ℕ)) → list_any (λ (w : List ℕ). list_any (is_affected_by s.script x) (touched_items s.script w s.limit)) words ≡ is_met s words x
+pub met_words : (s : Setting) (x : Part') (words : List (List ℕ)) → list_any (λ (w : List ℕ). list_any (is_affected_by s.script x) (touched_items s.script w s.limit)) words ≡ is_met s words x
 met_words s x [] = refl
 met_words s x (w ∷ words) = ap₂ (λ (a b : Bool). a || b) (met_one s x w) (met_words s x words)
 

@@ -13,7 +13,8 @@ use Rattle.sbl_bench.specs.KeptRuns.{KeptRuns, setting_of}
 use Rattle.sbl_bench.specs.Vocabulary.{is_word}
 use Rattle.sbl_machine.specs.BuiltFrom.{meets_one}
 use Rattle.sbl_machine.specs.Marks.{has_item}
-use Rattle.sbl_semantics.specs.TouchedItems.{Item', Among, item_of, names_of}
+use Rattle.sbl_semantics.specs.TouchedItems.{item_of, names_of}
+use Rattle.sbl_ast.specs.NamedParts.{Part', Among}
 use Rattle.sbl_semantics.specs.declared.item.Item.{Item}
 use Rattle.sbl_explain.specs.Used.{Entry, Take, same_take, uses}
 use Rattle.sbl_explain.specs.WhyRows.{routine_names}
@@ -67,7 +68,7 @@ abbrev pub row_words : List declared.Row → List (List ℕ)
 row_words rows = map (λ r. r.word.now) rows
 
 -- the words that do not run again meet none of the items
-abbrev pub Misses : Setting → List (List ℕ) → List Item' → (List ℕ → Bool) → Type 0
+abbrev pub Misses : Setting → List (List ℕ) → List Part' → (List ℕ → Bool) → Type 0
 Misses s words xs again = (w : List ℕ) → is_word w words ≡ true → again w ≡ false → meets_one xs s.script w s.limit ≡ false
 
 -- The words that do not run again take the same in two settings. Routines have the same numbers.

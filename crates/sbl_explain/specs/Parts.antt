@@ -3,7 +3,8 @@ use Rattle.std.specs.Prelude.{ℕ, suc, List, [], ◌∷◌, ◌++◌, map}
 use Rattle.std.specs.BTreeMap.{insert_entry}
 use Rattle.std.specs.List.{flat_map}
 use Rattle.sbl_ast.specs.Amongs.{AmongContents, amongs_of_body}
-use Rattle.sbl_semantics.specs.TouchedItems.{Item', Routine, Among, Grouping, item_cmp}
+use Rattle.sbl_semantics.specs.TouchedItems.{item_cmp}
+use Rattle.sbl_ast.specs.NamedParts.{Part', Routine, Among, Grouping}
 use Rattle.sbl_ast.specs.Source.{Source}
 use Rattle.sbl_ast.specs.Order.{in_order}
 use Rattle.sbl_ast.specs.Tree.{Entry, entry, Groups, bare, group, Plain, routine, grouping}
@@ -19,7 +20,7 @@ strings_of (group e es rs gs) = string_of e ∷ (map string_of es ++ strings_of 
 
 -- an item and, if it is an among, its strings
 abbrev pub Part : Type 0
-Part = Item' × List (List ℕ)
+Part = Part' × List (List ℕ)
 
 -- the amongs of a routine, of which the first has number k
 abbrev pub amongs_from : ℕ → List ℕ → List Groups → List Part

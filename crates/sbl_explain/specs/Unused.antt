@@ -3,7 +3,7 @@ use Rattle.std.specs.Prelude.{ℕ, Bool, List, [], ◌∷◌, ◌++◌, codes, d
 use Rattle.std.specs.List.{flat_map}
 use Rattle.std.specs.Str.{encode_utf8_all}
 use Rattle.sbl_rows.specs.Setting.{Setting}
-use Rattle.sbl_semantics.specs.TouchedItems.{Item', Routine, Among, Grouping}
+use Rattle.sbl_ast.specs.NamedParts.{Part', Routine, Among, Grouping}
 use Rattle.sbl_io.specs.Records.{records_text}
 use Rattle.sbl_explain.specs.Parts.{Part, parts_of}
 use Rattle.sbl_explain.specs.Used.{Entry, Whole, is_used}
@@ -12,7 +12,7 @@ pub use Rattle.sbl_explain.specs.Used.{Take, same_take, takes_at, takes_from, ta
 -- ---- what some word uses
 
 -- some word's run touches the item or, if it is a grouping, one that is built from it
-abbrev pub is_met : Setting → List (List ℕ) → Item' → Bool
+abbrev pub is_met : Setting → List (List ℕ) → Part' → Bool
 is_met s words x = is_used s words (Whole x)
 
 -- some word's run takes this string at this among
@@ -22,24 +22,24 @@ is_taken s words t = is_used s words (Entry t)
 -- ---- the rows
 
 -- the name of an item or of its routine, and the number of an among
-abbrev pub place_fields : Item' → List (List ℕ)
+abbrev pub place_fields : Part' → List (List ℕ)
 place_fields (Routine n) = n ∷ []
 place_fields (Among n k) = n ∷ decimal k ∷ []
 place_fields (Grouping n) = n ∷ []
 
-abbrev pub kind_field : Item' → List ℕ
+abbrev pub kind_field : Part' → List ℕ
 kind_field (Routine n) = codes "routine"
 kind_field (Among n k) = codes "among"
 kind_field (Grouping n) = codes "grouping"
 
-abbrev pub item_row : Item' → List (List ℕ)
+abbrev pub item_row : Part' → List (List ℕ)
 item_row x = kind_field x ∷ place_fields x
 
 abbrev pub entry_row : Take → List (List ℕ)
 entry_row t = codes "entry" ∷ (place_fields t.0 ++ encode_utf8_all t.1 ∷ [])
 
 -- a row for an item, unless a word meets it
-abbrev pub item_rows : Setting → List (List ℕ) → Item' → List (List (List ℕ))
+abbrev pub item_rows : Setting → List (List ℕ) → Part' → List (List (List ℕ))
 item_rows s words x = if is_met s words x then [] else item_row x ∷ []
 
 -- a row for a string of an among, unless a word takes it there
@@ -47,7 +47,7 @@ abbrev pub string_rows : Setting → List (List ℕ) → Take → List (List (Li
 string_rows s words t = if is_taken s words t then [] else entry_row t ∷ []
 
 -- the rows of the strings of an among
-abbrev pub untaken_rows : Setting → List (List ℕ) → Item' → List (List ℕ) → List (List (List ℕ))
+abbrev pub untaken_rows : Setting → List (List ℕ) → Part' → List (List ℕ) → List (List (List ℕ))
 untaken_rows s words among strings = flat_map (λ q. string_rows s words (among, q)) strings
 
 -- the same, if a word meets the among

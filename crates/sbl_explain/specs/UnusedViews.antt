@@ -9,7 +9,8 @@ use Rattle.sbl_rows.specs.Setting.{Setting}
 use Rattle.sbl_machine.specs.inside.BuiltFromParts.{built_on}
 use Rattle.sbl_machine.specs.ItemRefs.{item_of_ref, items_of_refs}
 use Rattle.sbl_machine.specs.declared.item_ref.ItemRef.{ItemRef}
-use Rattle.sbl_semantics.specs.TouchedItems.{Item', Grouping, same_item, touched_items}
+use Rattle.sbl_semantics.specs.TouchedItems.{same_item, touched_items}
+use Rattle.sbl_ast.specs.NamedParts.{Part', Grouping}
 use Rattle.sbl_ast.specs.Tree.{Groups, Plain, grouping}
 use Rattle.sbl_ast.specs.View.{view_among}
 use Rattle.sbl_ast.specs.declared.tree.Among.{Among}
@@ -54,22 +55,22 @@ abbrev pub IsUnion : {X : Type 0} → List X → List X → List X → Type 0
 IsUnion {X = X} all some others = (test : X → Bool) → list_any test all ≡ (list_any test some || list_any test others)
 
 -- the items that the run of a word touches
-abbrev pub touched_by : Setting → List ℕ → List Item'
+abbrev pub touched_by : Setting → List ℕ → List Part'
 touched_by s word = touched_items s.script word s.limit
 
 -- the items are those that the runs of the words touch
 abbrev pub AreTouched : Setting → List (List ℕ) → BTreeSet ItemRef → Type 0
-AreTouched s words items = (test : Item' → Bool) → list_any test (items_of_refs items) ≡ list_any (λ w. list_any test (touched_by s w)) words
+AreTouched s words items = (test : Part' → Bool) → list_any test (items_of_refs items) ≡ list_any (λ w. list_any test (touched_by s w)) words
 
 -- Whether an item is touched after what a definition adds: if it is a touched grouping, the groupings that its terms name
 -- count as touched.
-abbrev pub and_terms : Plain → (Item' → Bool) → Item' → Bool
+abbrev pub and_terms : Plain → (Part' → Bool) → Part' → Bool
 and_terms (grouping r a ts) touched x = (touched (Grouping r) && built_on (λ k. same_item x (Grouping k)) a ts) || touched x
 and_terms p touched x = touched x
 
 -- the items are those that the words meet
 abbrev pub HasMet : Setting → List (List ℕ) → BTreeSet ItemRef → Type 0
-HasMet s words met = (x : Item') → list_any (same_item x) (items_of_refs met) ≡ is_met s words x
+HasMet s words met = (x : Part') → list_any (same_item x) (items_of_refs met) ≡ is_met s words x
 
 -- the strings are those that the words take
 abbrev pub HasTaken : Setting → List (List ℕ) → BTreeSet Key → Type 0

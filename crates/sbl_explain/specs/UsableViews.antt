@@ -3,7 +3,8 @@ use Rattle.std.specs.Prelude.{◌≡◌, ◌++◌, ℕ, Bool, true, List, [], �
 use Rattle.std.specs.List.{list_all}
 use Rattle.sbl_machine.specs.ItemRefs.{item_of_ref}
 use Rattle.sbl_machine.specs.Marks.{has_item}
-use Rattle.sbl_semantics.specs.TouchedItems.{Item', names_of}
+use Rattle.sbl_semantics.specs.TouchedItems.{names_of}
+use Rattle.sbl_ast.specs.NamedParts.{Part'}
 use Rattle.sbl_ast.specs.Source.{Source}
 use Rattle.sbl_rows.specs.Rows.{Row}
 use Rattle.sbl_bench.specs.KeptRuns.{KeptRuns, setting_of}
@@ -22,7 +23,7 @@ abbrev pub view_usables : List declared.Usable → List Usable
 view_usables usables = map view_usable usables
 
 -- strings of an among
-abbrev pub entries_of : Item' → List (List ℕ) → List Usable
+abbrev pub entries_of : Part' → List (List ℕ) → List Usable
 entries_of x strings = map (λ q. Entry (x, q)) strings
 
 -- the script defines the routine or the grouping, if it is that of an item

@@ -5,7 +5,8 @@ use Rattle.std.specs.Str.{bytes_eq}
 use Rattle.sbl_rows.specs.Rows.{Row, rows_of}
 use Rattle.sbl_rows.specs.Setting.{Setting}
 use Rattle.sbl_machine.specs.BuiltFrom.{meets}
-use Rattle.sbl_semantics.specs.TouchedItems.{Item', Among, names_of, same_item}
+use Rattle.sbl_semantics.specs.TouchedItems.{names_of, same_item}
+use Rattle.sbl_ast.specs.NamedParts.{Part', Among}
 use Rattle.sbl_semantics.specs.Outcome.{events_of}
 use Rattle.sbl_semantics.specs.Events.{Event', Finds}
 use Rattle.sbl_explain.specs.Moments.{Moment, after, at_start, routine_of, string_taken}
@@ -14,7 +15,7 @@ use Rattle.sbl_explain.specs.Moments.{Moment, after, at_start, routine_of, strin
 
 -- an among, and a string that a search of it takes
 abbrev pub Take : Type 0
-Take = Item' × List ℕ
+Take = Part' × List ℕ
 
 abbrev pub same_take : Take → Take → Bool
 same_take t u = same_item t.0 u.0 && bytes_eq t.1 u.1
@@ -37,7 +38,7 @@ takes_of s word = takes_from (names_of s.script).routines (at_start word) (event
 
 -- what a run can use: a routine, an among or a grouping; a string of an among
 pub data Usable : Type 0 where
-  Whole : Item' → Usable
+  Whole : Part' → Usable
   Entry : Take → Usable
 
 -- Whether the run of a word uses it, up to its end or to where it is refused: it touches the item or, if that is a grouping, one that

@@ -5,7 +5,7 @@ use Rattle.std.specs.Option.{ok_or, option_map}
 use Rattle.std.specs.Result.{result_map_both}
 use Rattle.std.specs.Str.{bytes_eq}
 use Rattle.sbl_rows.specs.Setting.{Setting}
-use Rattle.sbl_semantics.specs.TouchedItems.{Item', Routine, Among, Grouping}
+use Rattle.sbl_ast.specs.NamedParts.{Part', Routine, Among, Grouping}
 use Rattle.sbl_ast.specs.Amongs.{amongs_of_body}
 use Rattle.sbl_script.specs.Edits.{first_of}
 use Rattle.sbl_source_map.specs.Definitions.{defines_name}
@@ -46,7 +46,7 @@ strings_at b zero = None
 strings_at b (suc k) = slice_get (among_strings b) k
 
 -- a string of an among that has these strings
-abbrev pub entry_in : Item' → List ℕ → Option (List (List ℕ)) → Result Usable UsesFault
+abbrev pub entry_in : Part' → List ℕ → Option (List (List ℕ)) → Result Usable UsesFault
 entry_in x q None = Err fault.NoAmong
 entry_in x q (Some strings) = if list_any (bytes_eq q) strings then Ok (Entry (x, q)) else Err fault.NoString
 

@@ -3,7 +3,8 @@ use Rattle.std.specs.Prelude.{◌≡◌, ℕ, Bool, true, List, [], ◌∷◌, �
 use Rattle.std.specs.List.{flat_map, list_any}
 use Rattle.sbl_rows.specs.Setting.{Setting}
 use Rattle.sbl_machine.specs.BuiltFrom.{is_affected_by}
-use Rattle.sbl_semantics.specs.TouchedItems.{Item', touched_items}
+use Rattle.sbl_semantics.specs.TouchedItems.{touched_items}
+use Rattle.sbl_ast.specs.NamedParts.{Part'}
 use Rattle.sbl_explain.specs.Counts.{usable_row}
 use Rattle.sbl_explain.specs.Parts.{Part, parts_of}
 use Rattle.sbl_explain.specs.Unused.{unused_rows}
@@ -31,4 +32,4 @@ UnusedHaveNumberZero =
 -- A word uses an item exactly if `trace` has the item or, if that is a grouping, one that is built from it.
 abbrev pub UsesAgreeWithTraces : Type 0
 UsesAgreeWithTraces =
-    (s : Setting) (word : List ℕ) (x : Item') → uses s word (Whole x) ≡ list_any (is_affected_by s.script x) (touched_items s.script word s.limit)
+    (s : Setting) (word : List ℕ) (x : Part') → uses s word (Whole x) ≡ list_any (is_affected_by s.script x) (touched_items s.script word s.limit)

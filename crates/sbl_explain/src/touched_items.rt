@@ -7,7 +7,8 @@ ghost use Rattle.sbl_bench.specs.Vocabulary.{is_word};
 ghost use Rattle.sbl_machine.specs.BuiltFrom.{is_affected_by, any_names};
 ghost use Rattle.sbl_machine.specs.inside.BuiltFromParts.{names};
 ghost use Rattle.sbl_machine.specs.ItemRefs.{item_of_ref, items_of_refs};
-ghost use Rattle.sbl_semantics.specs.TouchedItems.{Item', Grouping, same_item};
+ghost use Rattle.sbl_semantics.specs.TouchedItems.{same_item};
+ghost use Rattle.sbl_ast.specs.NamedParts.{Part', Grouping};
 ghost use Rattle.sbl_script.specs.ParsedScript.{source_of};
 ghost use Rattle.sbl_ast.specs.View.{view_argument, view_plain, view_term};
 ghost use Rattle.sbl_explain.specs.UnusedViews.{AreTouched, HasMet, IsUnion, and_terms, texts_of, touched_by};
@@ -22,7 +23,7 @@ use std::collections::BTreeSet;
 /// Adds an item. Returns `AllocError` if an allocation fails.
 #[tactic(auto, using(crate::proofs::Sets::item_added))]
 fn add_item<'a>(items: &mut BTreeSet<ItemRef<'a>>, item: ItemRef<'a>) -> Result<(), AllocError>
-    ensures { OnOk result ((test : Item' → Bool) → list_any test (items_of_refs items.new) ≡ (test (item_of_ref item.entry) || list_any test (items_of_refs items.old))) }
+    ensures { OnOk result ((test : Part' → Bool) → list_any test (items_of_refs items.new) ≡ (test (item_of_ref item.entry) || list_any test (items_of_refs items.old))) }
 {
     items.insert(item)?;
     Ok(())
@@ -76,7 +77,7 @@ fn add_argument<'a>(
     items: &mut BTreeSet<ItemRef<'a>>,
     argument: &'a Argument,
 ) -> Result<(), AllocError>
-    ensures { OnOk result ((test : Item' → Bool) → list_any test (items_of_refs items.new) ≡ (names (λ k. test (Grouping k)) (view_argument argument.now) || list_any test (items_of_refs items.old))) }
+    ensures { OnOk result ((test : Part' → Bool) → list_any test (items_of_refs items.new) ≡ (names (λ k. test (Grouping k)) (view_argument argument.now) || list_any test (items_of_refs items.old))) }
 {
     match argument {
         Argument::Literal(_) => Ok(()),
@@ -86,7 +87,7 @@ fn add_argument<'a>(
 
 /// Adds the groupings that terms name. Returns `AllocError` if an allocation fails.
 fn add_terms<'a>(items: &mut BTreeSet<ItemRef<'a>>, terms: &'a [Term]) -> Result<(), AllocError>
-    ensures { OnOk result ((test : Item' → Bool) → list_any test (items_of_refs items.new) ≡ (any_names (λ k. test (Grouping k)) (map view_term terms.now) || list_any test (items_of_refs items.old))) }
+    ensures { OnOk result ((test : Part' → Bool) → list_any test (items_of_refs items.new) ≡ (any_names (λ k. test (Grouping k)) (map view_term terms.now) || list_any test (items_of_refs items.old))) }
 {
     for term in terms {
         add_argument(items, &term.argument)?;
@@ -105,7 +106,7 @@ pub(crate) fn has_item<'a>(items: &BTreeSet<ItemRef<'a>>, item: &ItemRef<'a>) ->
 /// If a definition is that of a grouping that is one of the items, adds the groupings that its terms name. Returns `AllocError`
 /// if an allocation fails.
 fn add_built_from<'a>(items: &mut BTreeSet<ItemRef<'a>>, plain: &'a Plain) -> Result<(), AllocError>
-    ensures { OnOk result ((x : Item') → list_any (same_item x) (items_of_refs items.new) ≡ and_terms (view_plain plain.now) (λ y. list_any (same_item y) (items_of_refs items.old)) x) }
+    ensures { OnOk result ((x : Part') → list_any (same_item x) (items_of_refs items.new) ≡ and_terms (view_plain plain.now) (λ y. list_any (same_item y) (items_of_refs items.old)) x) }
 {
     if let Plain::Grouping(grouping) = plain {
         if has_item(items, &ItemRef::Grouping(&grouping.name)) {
@@ -123,7 +124,7 @@ fn add_bases<'a>(
     items: &mut BTreeSet<ItemRef<'a>>,
     script: &'a Script,
 ) -> Result<(), AllocError>
-    ensures { OnOk result ((x : Item') → list_any (same_item x) (items_of_refs items.new) ≡ list_any (is_affected_by (source_of script.now) x) (items_of_refs items.old)) }
+    ensures { OnOk result ((x : Part') → list_any (same_item x) (items_of_refs items.new) ≡ list_any (is_affected_by (source_of script.now) x) (items_of_refs items.old)) }
 {
     let in_order = items_in_order(alloc, script.items())?;
     let mut left = in_order.len();

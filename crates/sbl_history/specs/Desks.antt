@@ -7,7 +7,7 @@ use Rattle.sbl_bench.specs.Edits.{Edits}
 use Rattle.sbl_rows.specs.Rows.{Row}
 use Rattle.sbl_semantics.specs.Outcome.{outcome_of}
 use Rattle.sbl_print.specs.Canonical.{canonical}
-use Rattle.sbl_script.specs.Edits.{among, body, terms}
+use Rattle.sbl_ast.specs.NamedParts.{Among, Routine, Grouping}
 use Rattle.sbl_history.specs.History.{EditKind, OfLimit, OfPart, OfScript, Past, PastEdit, ToLimit, ToText, Turn, edit_of}
 use Rattle.sbl_history.specs.MayBreak.{EditsOrBreaksIf}
 use Rattle.sbl_history.specs.Refused.{RefusedText, view_last}
@@ -41,9 +41,9 @@ abbrev pub view_marked : MarkedRow → Row
 view_marked r = record { word = r.word.items; outcome = outcome_of r.outcome }
 
 abbrev pub view_kind : HeldKind → EditKind
-view_kind (kind.Routine name) = OfPart (body (string_bytes name))
-view_kind (kind.Among name k) = OfPart (among (string_bytes name) k)
-view_kind (kind.Grouping name) = OfPart (terms (string_bytes name))
+view_kind (kind.Routine name) = OfPart (Routine (string_bytes name))
+view_kind (kind.Among name k) = OfPart (Among (string_bytes name) k)
+view_kind (kind.Grouping name) = OfPart (Grouping (string_bytes name))
 view_kind kind.Script = OfScript
 view_kind (kind.Limit n) = OfLimit n
 

@@ -5,7 +5,7 @@ use Rattle.sbl_bench.specs.Edits.{Edit, Edits, Replace}
 use Rattle.sbl_bench.specs.declared.fault.EditFault.{EditFault}
 use Rattle.sbl_bench.specs.declared.fault.EditFault.TheVariants as fault
 use Rattle.sbl_print.specs.Canonical.{canonical}
-use Rattle.sbl_script.specs.Edits.{ScriptEdit}
+use Rattle.sbl_ast.specs.NamedParts.{Part'}
 use Rattle.sbl_history.specs.Desks.{KeepsRest, State, text_in}
 use Rattle.sbl_history.specs.MayBreak.{EditsOrBreaksIf}
 use Rattle.sbl_history.specs.History.{EditKind, OfLimit, OfPart, PastEdit, ToLimit, ToText, remember_edit}
@@ -35,7 +35,7 @@ Replaces (Err f) kind edit text s d t e = EditsOrBreaksIf d.may_break (Err f) s 
 
 -- The same for a part of the script. The text that is kept then is a text of the current script, if any is kept; or an allocation
 -- failed before anything was tried.
-abbrev pub ReplacesPart : Result (Unit {0}) EditFault → ScriptEdit → List ℕ → Contents → State → Contents → State → Type 0
+abbrev pub ReplacesPart : Result (Unit {0}) EditFault → Part' → List ℕ → Contents → State → Contents → State → Type 0
 ReplacesPart result what text s d t e =
     ((kept : Option (List ℕ)) × IsTextOf s t kept × Replaces result (OfPart what) (Replace what text) kept s d t e)
     ⊎ ((result ≡ Err fault.OutOfMemory) × (t ≡ s) × (e ≡ d))

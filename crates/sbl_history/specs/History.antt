@@ -1,7 +1,7 @@
 -- The edits that can be undone and redone.
 use Rattle.std.specs.Prelude.{ℕ, List, [], ◌∷◌, ◌++◌, ◌-◌, length, drop}
 use Rattle.sbl_bench.specs.Edits.{Edit, Limit, Whole}
-use Rattle.sbl_script.specs.Edits.{ScriptEdit}
+use Rattle.sbl_ast.specs.NamedParts.{Part'}
 
 -- what an edit is undone or redone by: a text of a script, or a limit of steps
 pub data Turn : Type 0 where
@@ -10,7 +10,7 @@ pub data Turn : Type 0 where
 
 -- what a command edited: a part of the script, the whole script, or the limit, which it set to this one
 pub data EditKind : Type 0 where
-  OfPart : ScriptEdit → EditKind
+  OfPart : Part' → EditKind
   OfScript : EditKind
   OfLimit : ℕ → EditKind
 

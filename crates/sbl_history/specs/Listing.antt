@@ -1,13 +1,13 @@
 -- The rows of the edits that can be undone and redone.
 use Rattle.std.specs.Prelude.{ℕ, List, [], ◌∷◌, ◌++◌, codes, decimal, map, reverse}
 use Rattle.sbl_io.specs.Records.{records_text}
-use Rattle.sbl_script.specs.Edits.{ScriptEdit, among, body, terms}
+use Rattle.sbl_ast.specs.NamedParts.{Part', Among, Routine, Grouping}
 use Rattle.sbl_history.specs.History.{EditKind, OfLimit, OfPart, OfScript, Past, PastEdit}
 
-abbrev pub part_fields : ScriptEdit → List (List ℕ)
-part_fields (body name) = codes "routine" ∷ name ∷ []
-part_fields (among name k) = codes "among" ∷ name ∷ decimal k ∷ []
-part_fields (terms name) = codes "grouping" ∷ name ∷ []
+abbrev pub part_fields : Part' → List (List ℕ)
+part_fields (Routine name) = codes "routine" ∷ name ∷ []
+part_fields (Among name k) = codes "among" ∷ name ∷ decimal k ∷ []
+part_fields (Grouping name) = codes "grouping" ∷ name ∷ []
 
 -- what was edited; of a limit the one that was set
 abbrev pub kind_fields : EditKind → List (List ℕ)

@@ -1,7 +1,7 @@
 -- The text that was refused last.
 use Rattle.std.specs.Prelude.{ℕ, List, Option, string_bytes}
 use Rattle.std.specs.Option.{option_map}
-use Rattle.sbl_script.specs.Edits.{ScriptEdit, among, body, terms}
+use Rattle.sbl_ast.specs.NamedParts.{Part', Among, Routine, Grouping}
 use Rattle.sbl_text.specs.declared.fault.ScriptFault.{ScriptFault}
 use Rattle.sbl_history.specs.declared.refused.HeldPart.{HeldPart}
 use Rattle.sbl_history.specs.declared.refused.HeldPart.TheVariants as part
@@ -12,14 +12,14 @@ pub data RefusedText : Type 0 where
   -- the bytes of a whole script
   WholeText : List ℕ → RefusedText
   -- what was typed for a part of the script, and the fault of the edit
-  PartText : ScriptEdit → List ℕ → ScriptFault → RefusedText
+  PartText : Part' → List ℕ → ScriptFault → RefusedText
   -- a text with more bytes than a script may have
   LongText : RefusedText
 
-abbrev pub view_held : HeldPart → ScriptEdit
-view_held (part.Routine name) = body (string_bytes name)
-view_held (part.Among name k) = among (string_bytes name) k
-view_held (part.Grouping name) = terms (string_bytes name)
+abbrev pub view_held : HeldPart → Part'
+view_held (part.Routine name) = Routine (string_bytes name)
+view_held (part.Among name k) = Among (string_bytes name) k
+view_held (part.Grouping name) = Grouping (string_bytes name)
 
 abbrev pub view_refused : Refused → RefusedText
 view_refused (refused.Whole text) = WholeText text.items

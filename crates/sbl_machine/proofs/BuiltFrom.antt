@@ -16,7 +16,7 @@ use Rattle.sbl_semantics.specs.Items.{known_in, names_by, is_member}
 use Rattle.sbl_machine.specs.BuiltFrom.{any_names, IsClosed, IsClosedAt, and_built, is_affected_by, AffectedIsClosed}
 use Rattle.sbl_machine.specs.inside.BuiltFromParts.{names}
 use Rattle.sbl_machine.specs.inside.BuiltFromParts.{built_on, built_after}
-use Rattle.sbl_semantics.specs.TouchedItems.{Item', Routine, Among, Grouping}
+use Rattle.sbl_ast.specs.NamedParts.{Part', Routine, Among, Grouping}
 use Rattle.sbl_machine.proofs.GroupingNames.{IsKnown, AreKnown, names_are}
 use Rattle.sbl_machine.proofs.NamesStand.{Passing}
 use Rattle.sbl_ast.specs.Source.{Source}
@@ -35,7 +35,7 @@ module _ (chosen : List ℕ → Bool) (none : (n : List ℕ) → chosen n ≡ fa
   not_built : (a : Argument) (ts : List Term) → built_on chosen a ts ≡ false
   not_built a ts = ap (λ (b : Bool). b || any_names chosen ts) (no_name a) ∙ no_names ts
 
-module _ (picked : Item' → Bool) (none : (n : List ℕ) → picked (Grouping n) ≡ false) where
+module _ (picked : Part' → Bool) (none : (n : List ℕ) → picked (Grouping n) ≡ false) where
   none_at : (x : Plain) → IsClosedAt picked x
   none_at (grouping n a ts) = λ h. absurd (true≢false (sym h ∙ not_built (λ m. picked (Grouping m)) none a ts))
   none_at (declaration k ns) = tt

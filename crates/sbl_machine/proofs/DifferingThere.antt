@@ -22,14 +22,15 @@ use Rattle.sbl_machine.specs.DifferLaws.{DifferingAreThere}
 use Rattle.sbl_semantics.specs.DiffersByParts.{when, join, differ, differ_others, items_by, differ_plain, differ_plains, differ_item, differ_items}
 use Rattle.sbl_machine.specs.Marks.{has_item}
 use Rattle.sbl_semantics.specs.Same.{same_argument, same_quoted, same_term}
-use Rattle.sbl_semantics.specs.TouchedItems.{Item', Among, Grouping, Names', names_of}
+use Rattle.sbl_semantics.specs.TouchedItems.{Names', names_of}
+use Rattle.sbl_ast.specs.NamedParts.{Part', Among, Grouping}
 use Rattle.sbl_machine.proofs.DifferingCommands.{halves, if_so, none_listed}
 use Rattle.sbl_machine.proofs.EditsAgree.{first_name, grouping_more, routine_more}
 use Rattle.sbl_semantics.proofs.ByParts.{by_parts}
 use Rattle.sbl_semantics.proofs.SameSelf.{also, name_self}
 
 module _ (names : Names') where
-  abbrev There : List Item' → Type 0
+  abbrev There : List Part' → Type 0
   There zs = list_all (has_item names) zs ≡ true
 
   -- the names have the routine or the grouping that an item defines
@@ -43,10 +44,10 @@ module _ (names : Names') where
   abbrev HaveAll : List ItemInMode → Type 0
   HaveAll is = AllByRecursion (λ x. HasPlain x.plain) is
 
-  both_there : (zs xs ys : List Item') → zs ≡ xs ++ ys → There xs → There ys → There zs
+  both_there : (zs xs ys : List Part') → zs ≡ xs ++ ys → There xs → There ys → There zs
   both_there zs xs ys is p q = ap (list_all (has_item names)) is ∙ list_all-append (has_item names) xs ys ∙ also _ _ p q
 
-  none_there : (b : Bool) (zs : List Item') → when b ≡ Some zs → There zs
+  none_there : (b : Bool) (zs : List Part') → when b ≡ Some zs → There zs
   none_there b zs is = subst There (none_listed b zs is) refl
 
   amongs_there : (n : List ℕ) → is_member names.routines n ≡ true → (ks : List ℕ) → There (map (Among n) ks)
@@ -61,7 +62,7 @@ module _ (names : Names') where
   terms_there n has true = refl
   terms_there n has false = also _ _ has refl
 
-  plain_there : (x y : Plain) (zs : List Item') → differ_plain x y ≡ Some zs → HasPlain x → There zs
+  plain_there : (x y : Plain) (zs : List Part') → differ_plain x y ≡ Some zs → HasPlain x → There zs
   plain_there (declaration k ms) (declaration l ns) zs is has = none_there (sameb kind.the_type k l && pointwise bytes_eq ms ns) zs is
   plain_there (escapes a b) (escapes c d) zs is has = none_there (nat_eq a c && nat_eq b d) zs is
   plain_there (macro m b q) (macro n c r) zs is has = none_there (bytes_eq m n && (option_eq (sameb base.the_type) b c && same_quoted q r)) zs is
@@ -93,7 +94,7 @@ module _ (names : Names') where
   plain_there (grouping x0 x1 x2) (routine y0 y1 y2) zs is has = absurd (none-some zs is)
 
   -- the items of one backwardmode, and the items after it
-  plains_there : (xs ys : List Plain) (rest : List ItemInMode) (zs : List Item') → differ_plains xs ys ≡ Some zs → HaveAll (in_mode Backward xs ++ rest) → There zs × HaveAll rest
+  plains_there : (xs ys : List Plain) (rest : List ItemInMode) (zs : List Part') → differ_plains xs ys ≡ Some zs → HaveAll (in_mode Backward xs ++ rest) → There zs × HaveAll rest
   plains_there [] [] rest zs is has = (subst There (same_Some [] zs is) refl, has)
   plains_there (x ∷ xs) (y ∷ ys) rest zs is has =
       let h = halves _ _ zs is in
@@ -102,13 +103,13 @@ module _ (names : Names') where
   plains_there [] (y ∷ ys) rest zs is has = absurd (none-some zs is)
   plains_there (x ∷ xs) [] rest zs is has = absurd (none-some zs is)
 
-  item_there : (x y : Item) (xs : List Item) (zs : List Item') → differ_item x y ≡ Some zs → HaveAll (in_order (x ∷ xs)) → There zs × HaveAll (in_order xs)
+  item_there : (x y : Item) (xs : List Item) (zs : List Part') → differ_item x y ≡ Some zs → HaveAll (in_order (x ∷ xs)) → There zs × HaveAll (in_order xs)
   item_there (plain x) (plain y) xs zs is has = (plain_there x y zs is has.0, has.1)
   item_there (backward ps) (backward qs) xs zs is has = plains_there ps qs (in_order xs) zs is has
   item_there (plain x) (backward qs) xs zs is has = absurd (none-some zs is)
   item_there (backward ps) (plain y) xs zs is has = absurd (none-some zs is)
 
-  items_there : (xs ys : List Item) (zs : List Item') → differ_items xs ys ≡ Some zs → HaveAll (in_order xs) → There zs
+  items_there : (xs ys : List Item) (zs : List Part') → differ_items xs ys ≡ Some zs → HaveAll (in_order xs) → There zs
   items_there [] [] zs is has = subst There (same_Some [] zs is) refl
   items_there (x ∷ xs) (y ∷ ys) zs is has =
       let h = halves _ _ zs is in

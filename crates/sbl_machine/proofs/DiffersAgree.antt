@@ -15,7 +15,7 @@ use Rattle.sbl_machine.specs.DifferLaws.{DifferingAgree, DifferingStay}
 use Rattle.sbl_machine.specs.Frame.{AgreeOutside}
 use Rattle.sbl_machine.specs.Holes.{holed_plain, holed_item}
 use Rattle.sbl_semantics.specs.Same.{same_argument, same_term}
-use Rattle.sbl_semantics.specs.TouchedItems.{Item', Routine, Among, Grouping}
+use Rattle.sbl_ast.specs.NamedParts.{Part', Routine, Among, Grouping}
 use Rattle.sbl_parser.proofs.OneTree.{trees_are_one}
 use Rattle.sbl_semantics.proofs.ByParts.{by_parts}
 use Rattle.sbl_machine.proofs.EditsAgree.{unmet_by_one_stay}
@@ -25,8 +25,8 @@ use Rattle.sbl_machine.proofs.DifferingCommands.{all_parts, halves, if_so, whole
 
 -- ---- items
 
-module _ (picked : Item' → Bool) where
-  abbrev Picked : List Item' → Type 0
+module _ (picked : Part' → Bool) where
+  abbrev Picked : List Part' → Type 0
   Picked xs = list_all picked xs ≡ true
 
   numbers : (n : List ℕ) (ks : List ℕ) → Picked (map (Among n) ks) → list_all (λ k. picked (Among n k)) ks ≡ true
@@ -55,7 +55,7 @@ module _ (picked : Item' → Bool) where
       (λ i. holed_plain picked (grouping n (y i) (z i)))
   groupings n a b xs ys false e all = let h = (both (picked (Grouping n)) true all).0 in rw h refl
 
-  plain_agree : (x y : Plain) (zs : List Item') → differ_plain x y ≡ Some zs → Picked zs → holed_plain picked x ≡ holed_plain picked y
+  plain_agree : (x y : Plain) (zs : List Part') → differ_plain x y ≡ Some zs → Picked zs → holed_plain picked x ≡ holed_plain picked y
   plain_agree (declaration k ms) (declaration l ns) zs is all =
       let h = both _ _ (whole _ zs is) in
       let a = kind_is k l h.0 in
@@ -104,7 +104,7 @@ module _ (picked : Item' → Bool) where
   plain_agree (grouping x0 x1 x2) (macro y0 y1 y2) zs is all = absurd (none-some zs is)
   plain_agree (grouping x0 x1 x2) (routine y0 y1 y2) zs is all = absurd (none-some zs is)
 
-  plains_agree : (xs ys : List Plain) (zs : List Item') → differ_plains xs ys ≡ Some zs → Picked zs → map (holed_plain picked) xs ≡ map (holed_plain picked) ys
+  plains_agree : (xs ys : List Plain) (zs : List Part') → differ_plains xs ys ≡ Some zs → Picked zs → map (holed_plain picked) xs ≡ map (holed_plain picked) ys
   plains_agree [] [] zs is all = refl
   plains_agree (x ∷ xs) (y ∷ ys) zs is all =
       let h = halves _ _ zs is in
@@ -115,13 +115,13 @@ module _ (picked : Item' → Bool) where
   plains_agree [] (y ∷ ys) zs is all = absurd (none-some zs is)
   plains_agree (x ∷ xs) [] zs is all = absurd (none-some zs is)
 
-  item_agree : (x y : Item) (zs : List Item') → differ_item x y ≡ Some zs → Picked zs → holed_item picked x ≡ holed_item picked y
+  item_agree : (x y : Item) (zs : List Part') → differ_item x y ≡ Some zs → Picked zs → holed_item picked x ≡ holed_item picked y
   item_agree (plain x) (plain y) zs is all = ap plain (plain_agree x y zs is all)
   item_agree (backward xs) (backward ys) zs is all = ap backward (plains_agree xs ys zs is all)
   item_agree (plain x) (backward ys) zs is all = absurd (none-some zs is)
   item_agree (backward xs) (plain y) zs is all = absurd (none-some zs is)
 
-  items_agree : (xs ys : List Item) (zs : List Item') → differ_items xs ys ≡ Some zs → Picked zs → map (holed_item picked) xs ≡ map (holed_item picked) ys
+  items_agree : (xs ys : List Item) (zs : List Part') → differ_items xs ys ≡ Some zs → Picked zs → map (holed_item picked) xs ≡ map (holed_item picked) ys
   items_agree [] [] zs is all = refl
   items_agree (x ∷ xs) (y ∷ ys) zs is all =
       let h = halves _ _ zs is in
@@ -132,7 +132,7 @@ module _ (picked : Item' → Bool) where
   items_agree [] (y ∷ ys) zs is all = absurd (none-some zs is)
   items_agree (x ∷ xs) [] zs is all = absurd (none-some zs is)
 
-pub agree_outside : (picked : Item' → Bool) (s t : Source) (zs : List Item') → differs s t ≡ Some zs → list_all picked zs ≡ true → AgreeOutside picked s t
+pub agree_outside : (picked : Part' → Bool) (s t : Source) (zs : List Part') → differs s t ≡ Some zs → list_all picked zs ≡ true → AgreeOutside picked s t
 agree_outside picked s t zs is all =
     let h = if_so _ _ zs (sym (by_parts trees_are_one s t) ∙ is) in
     let external = name_is s.external t.external h.0 in

@@ -17,7 +17,8 @@ use Rattle.sbl_ast.specs.inside.OrderParts.{in_mode}
 use Rattle.sbl_ast.specs.declared.mode.Mode.TheVariants.{Backward}
 use Rattle.sbl_ast.specs.declared.tree.DeclarationKind.{DeclarationKind}
 use Rattle.sbl_ast.specs.declared.tree.DeclarationKind.TheVariants as kinds
-use Rattle.sbl_script.specs.Edits.{ScriptEdit, body, among, terms, changes, is_routine_named, is_grouping_named, plains_with, items_with}
+use Rattle.sbl_ast.specs.NamedParts.{Routine as body, Among as among, Grouping as terms}
+use Rattle.sbl_script.specs.Edits.{changes, is_routine_named, is_grouping_named, plains_with, items_with}
 use Rattle.sbl_script.specs.Homes.{Home, first_in, first_passing, home_in, home_of_among, home_of_body, home_of_held, home_of_terms, plain_if, IsSubstitutedAt}
 use Rattle.sbl_script.proofs.Agreement.{edited_in}
 use Rattle.sbl_script.proofs.Found.{grouping_found, routine_found, some_plain}
@@ -27,8 +28,8 @@ use Rattle.sbl_machine.specs.Frame.{AgreeOutside, AgreeingNamesStay, ClearStay, 
 use Rattle.sbl_machine.specs.Holes.{with_holes, nothing, others_with_holes, holed_plain, holed_item}
 use Rattle.sbl_semantics.specs.Meaning.{ending}
 use Rattle.sbl_semantics.specs.Outcome.{touched_at, touches_of}
-use Rattle.sbl_semantics.specs.TouchedItems.{Item', Routine, Among, Grouping, item_of_touch, names_of, same_item}
-use Rattle.sbl_machine.specs.EditedItem.{edited_item}
+use Rattle.sbl_semantics.specs.TouchedItems.{item_of_touch, names_of, same_item}
+use Rattle.sbl_ast.specs.NamedParts.{Part', Routine, Among, Grouping}
 use Rattle.sbl_machine.specs.Marks.{EditedAreThere, has_item}
 use Rattle.sbl_machine.proofs.BuiltFrom.{affected_closed, built_more}
 use Rattle.sbl_machine.proofs.NamesStand.{flip}
@@ -42,7 +43,7 @@ same_bytes n = (bytes_eq-Decides n n).1 refl
 
 -- ---- another item in the place of the first that passes, which is the same with holes
 
-module _ (picked : Item' → Bool) (p : Plain → Bool) (new old : Plain) (same : holed_plain picked new ≡ holed_plain picked old) where
+module _ (picked : Part' → Bool) (p : Plain → Bool) (new old : Plain) (same : holed_plain picked new ≡ holed_plain picked old) where
   -- the item itself
   here : (x : Plain) → Some x ≡ Some old → holed_plain picked new ≡ holed_plain picked x
   here x is = same ∙ ap (holed_plain picked) (sym (some_plain x old is))
@@ -112,7 +113,7 @@ terms_same s n a b xs ys =
     gone a xs ∙ sym (gone b ys)
 
 -- the script with another item in the place of one
-script_agree : (picked : Item' → Bool) (s t : Source) (p : Plain → Bool) (new old : Plain) → holed_plain picked new ≡ holed_plain picked old → first_passing p s.items ≡ Some old
+script_agree : (picked : Part' → Bool) (s t : Source) (p : Plain → Bool) (new old : Plain) → holed_plain picked new ≡ holed_plain picked old → first_passing p s.items ≡ Some old
     → t.items ≡ items_with p new s.items → t.external ≡ s.external → AgreeOutside picked s t
 script_agree picked s t p new old same at items external =
     let is : map (holed_item picked) s.items ≡ map (holed_item picked) t.items = sym (items_agree picked p new old same s.items at) ∙ ap (map (holed_item picked)) (sym items) in
@@ -216,10 +217,10 @@ grouping_known n is x at = items_known n kinds.Groupings (is_grouping_named n) (
 
 -- ---- an edit, by what is found in the script
 
-abbrev Edited : Source → Source → ScriptEdit → Type 0
-Edited s t e = AgreeOutside (is_affected_by s (edited_item e)) s t × (has_item (names_of s) (edited_item e) ≡ true)
+abbrev Edited : Source → Source → Part' → Type 0
+Edited s t e = AgreeOutside (is_affected_by s e) s t × (has_item (names_of s) e ≡ true)
 
-edit_by : (s t : Source) (e : ScriptEdit) (text : List ℕ) (h : Home) (o : Option Plain) → first_passing (changes e) s.items ≡ o → home_in s.items o e ≡ Ok h → IsSubstitutedAt s h text true t → Edited s t e
+edit_by : (s t : Source) (e : Part') (text : List ℕ) (h : Home) (o : Option Plain) → first_passing (changes e) s.items ≡ o → home_in s.items o e ≡ Ok h → IsSubstitutedAt s h text true t → Edited s t e
 edit_by s t (body n) text h (Some (routine m c os)) at is z =
     let same : home_of_body s.items n ≡ h = cc in
     (body_agree s t n text (c, os) h (routine_found n s.items m c os at) same z, routine_known n s.items (routine m c os) at)
@@ -255,7 +256,7 @@ edited_are_there s t e text edited =
     (edit_by s t e text z.0 (first_passing (changes e) s.items) refl z.1 z.2).1
 
 pub names_stay : NamesStay
-names_stay s t e text edited = agree_names (is_affected_by s (edited_item e)) s t (edits_agree s t e text edited)
+names_stay s t e text edited = agree_names (is_affected_by s e) s t (edits_agree s t e text edited)
 
 pub agreeing_names_stay : AgreeingNamesStay
 agreeing_names_stay picked s t agree = agree_names picked s t agree
@@ -277,4 +278,4 @@ unfolding meets_one
 unmet_by_one_stay passes xs s t well agree word limit clear = clear_stay (affected_by s xs) s t (several_closed passes s well xs) agree word limit clear
 
 pub untouched_stay : WellDeclaredPasses → UntouchedStay
-untouched_stay passes s t e text well edited word limit clear = unmet_stay passes (edited_item e) s t well (edits_agree s t e text edited) word limit clear
+untouched_stay passes s t e text well edited word limit clear = unmet_stay passes e s t well (edits_agree s t e text edited) word limit clear

@@ -25,7 +25,8 @@ use Rattle.sbl_semantics.specs.inside.MeaningParts.{row_does}
 use Rattle.sbl_semantics.specs.Outcome.{outcome_at, used_at, touched_at, run_of, used_of, touches_of}
 use Rattle.sbl_semantics.specs.Control.{pay_first, enter, leave}
 use Rattle.sbl_semantics.specs.State.{State, Ending, Signals, Stops, Doing, pay}
-use Rattle.sbl_semantics.specs.TouchedItems.{Item', Routine, Among, Grouping, Names', item_of_touch, names_of, items_of, touched_items}
+use Rattle.sbl_semantics.specs.TouchedItems.{Names', item_of_touch, names_of, items_of, touched_items}
+use Rattle.sbl_ast.specs.NamedParts.{Part', Routine, Among, Grouping}
 use Rattle.sbl_machine.proofs.TouchedOrder.{any_ordered, any-mapped}
 use Rattle.sbl_machine.proofs.Touching.{with_chosen, with_grows, not_then, replicate_index}
 use Rattle.sbl_machine.proofs.Stays.{end_state, pay_same}
@@ -91,10 +92,10 @@ module _ (is_marked : Touch → Bool) where
       (λ s w. leave_dirty s.routine s.choices (d' m (enter j n' s)) ((h' (enter j n' s)).up (with_chosen is_marked (Entered j) s.touched c)))
 
 -- what is picked, by number
-abbrev pub marked_by : (Item' → Bool) → Names' → Touch → Bool
+abbrev pub marked_by : (Part' → Bool) → Names' → Touch → Bool
 marked_by picked names x = picked (item_of_touch names x)
 
-module _ (picked : Item' → Bool) (items : List ItemInMode) (closed : AllByRecursion (λ x. IsClosedAt picked x.plain) items) where
+module _ (picked : Part' → Bool) (items : List ItemInMode) (closed : AllByRecursion (λ x. IsClosedAt picked x.plain) items) where
   abbrev ns : DeclaredNames
   ns = known_in items
 
@@ -167,7 +168,7 @@ module _ (picked : Item' → Bool) (items : List ItemInMode) (closed : AllByRecu
 abbrev run_on : ℕ → List ItemInMode → List ℕ → List ℕ → ℕ → Ending
 run_on l items external word limit = calls (known_in items) (char_class_of (classes_after items [])) (body_named items) l external Forward (start (known_in items) word limit)
 
-holed_run : (picked : Item' → Bool) (l : ℕ) (items : List ItemInMode) (external word : List ℕ) (limit : ℕ) →
+holed_run : (picked : Part' → Bool) (l : ℕ) (items : List ItemInMode) (external word : List ℕ) (limit : ℕ) →
     run_on l (holed_items picked items) external word limit
     ≡ calls (known_in items) (char_class_of (classes_after (holed_items picked items) [])) (body_named (holed_items picked items)) l external Forward (start (known_in items) word limit)
 holed_run picked l items external word limit =
@@ -178,18 +179,18 @@ holed_run picked l items external word limit =
 abbrev Kin : (Touch → Bool) → Ending → Ending → Type 0
 Kin is_marked e e' = (e' ≡ e) ⊎ ((dirty_at is_marked e ≡ true) × (dirty_at is_marked e' ≡ true))
 
-levels_kin : (picked : Item' → Bool) (l : ℕ) (s : Source) → IsClosed picked s → (word : List ℕ) (limit : ℕ) →
+levels_kin : (picked : Part' → Bool) (l : ℕ) (s : Source) → IsClosed picked s → (word : List ℕ) (limit : ℕ) →
     Kin (marked_by picked (names_of s)) (run_on l (in_order s.items) s.external word limit) (run_on l (in_order (holed_script picked s).items) s.external word limit)
 levels_kin picked l s closed word limit =
     subst (Kin (marked_by picked (names_of s)) (run_on l (in_order s.items) s.external word limit))
     (sym (ap (λ xs. run_on l xs s.external word limit) (order_holed picked s.items) ∙ holed_run picked l (in_order s.items) s.external word limit))
     (run_kin picked (in_order s.items) closed l s.external word limit)
 
-regions_kin : (picked : Item' → Bool) (s : Source) → IsClosed picked s → (word : List ℕ) (limit : ℕ) → Kin (marked_by picked (names_of s)) (regions.ending s word limit) (regions.ending (holed_script picked s) word limit)
+regions_kin : (picked : Part' → Bool) (s : Source) → IsClosed picked s → (word : List ℕ) (limit : ℕ) → Kin (marked_by picked (names_of s)) (regions.ending s word limit) (regions.ending (holed_script picked s) word limit)
 unfolding regions.ending
 regions_kin picked s closed word limit = levels_kin picked 32 s closed word limit
 
-ending_kin : (picked : Item' → Bool) (s : Source) → IsClosed picked s → (word : List ℕ) (limit : ℕ) → Kin (marked_by picked (names_of s)) (ending s word limit) (ending (holed_script picked s) word limit)
+ending_kin : (picked : Part' → Bool) (s : Source) → IsClosed picked s → (word : List ℕ) (limit : ℕ) → Kin (marked_by picked (names_of s)) (ending s word limit) (ending (holed_script picked s) word limit)
 ending_kin picked s closed word limit =
     let is_marked = marked_by picked (names_of s) in
     let same = ending_is s word limit in
@@ -197,7 +198,7 @@ ending_kin picked s closed word limit =
     subst (λ (e : Ending). Kin is_marked e (ending (holed_script picked s) word limit)) (sym same)
     (subst (Kin is_marked (regions.ending s word limit)) (sym same_hole) (regions_kin picked s closed word limit))
 
-pub agree_names : (picked : Item' → Bool) (s t : Source) → AgreeOutside picked s t → names_of t ≡ names_of s
+pub agree_names : (picked : Part' → Bool) (s t : Source) → AgreeOutside picked s t → names_of t ≡ names_of s
 agree_names picked s t agree = sym (names_same picked t) ∙ ap names_of (sym agree) ∙ names_same picked s
 
 clear_kin : (is_marked : Touch → Bool) (e e' : Ending) → Kin is_marked e e' → dirty_at is_marked e ≡ false → e' ≡ e
@@ -206,7 +207,7 @@ clear_kin is_marked e e' h clear = ⊎_elim (λ p. p) (λ d. absurd (true≢fals
 clear_back : (is_marked : Touch → Bool) (e e' : Ending) → Kin is_marked e e' → dirty_at is_marked e' ≡ false → e ≡ e'
 clear_back is_marked e e' h clear = ⊎_elim (λ p. sym p) (λ d. absurd (true≢false (sym d.1 ∙ clear))) h
 
-pub frame_on : (picked : Item' → Bool) (s t : Source) → IsClosed picked s → AgreeOutside picked s t → (word : List ℕ) (limit : ℕ) → dirty_at (marked_by picked (names_of s)) (ending s word limit) ≡ false → ending t word limit ≡ ending s word limit
+pub frame_on : (picked : Part' → Bool) (s t : Source) → IsClosed picked s → AgreeOutside picked s t → (word : List ℕ) (limit : ℕ) → dirty_at (marked_by picked (names_of s)) (ending s word limit) ≡ false → ending t word limit ≡ ending s word limit
 frame_on picked s t closed agree word limit clear =
     let is_marked = marked_by picked (names_of s) in
     let hole = holed_script picked in
@@ -222,7 +223,7 @@ pub touched_ended : (e : Ending) → touched_at e ≡ (end_state e).touched
 touched_ended (Signals b s) = refl
 touched_ended (Stops fault s) = refl
 
-pub clear_by_names : (picked : Item' → Bool) (names : Names') (e : Ending) → list_any (marked_by picked names) (touched_at e) ≡ dirty_at (marked_by picked names) e
+pub clear_by_names : (picked : Part' → Bool) (names : Names') (e : Ending) → list_any (marked_by picked names) (touched_at e) ≡ dirty_at (marked_by picked names) e
 clear_by_names picked names e = ap (list_any (marked_by picked names)) (touched_ended e)
 
 pub alike_by : (s t : Source) (word : List ℕ) (limit : ℕ) → names_of t ≡ names_of s → ending t word limit ≡ ending s word limit → RunsAlike s t word limit

@@ -15,8 +15,8 @@ use Rattle.sbl_machine.specs.BuiltFrom.{any_names, IsClosedAt}
 use Rattle.sbl_machine.specs.inside.BuiltFromParts.{names}
 use Rattle.sbl_machine.specs.inside.BuiltFromParts.{built_on}
 use Rattle.sbl_machine.specs.Holes.{nothing, holed_plain}
-use Rattle.sbl_semantics.specs.TouchedItems.{Item', Routine}
-use Rattle.sbl_semantics.specs.TouchedItems as items
+use Rattle.sbl_ast.specs.NamedParts.{Part', Routine}
+use Rattle.sbl_ast.specs.NamedParts as items
 use Rattle.sbl_machine.proofs.Groupings.{name_of, class_names}
 use Rattle.sbl_machine.proofs.HoledScripts.{holed_items}
 
@@ -43,7 +43,7 @@ no_class xs n c h = none_has (classes_after xs []) n c (ap (λ l. is_member l n)
 
 -- ---- groupings beside those of the same items with holes
 
-module _ (picked : Item' → Bool) where
+module _ (picked : Part' → Bool) where
   abbrev is_picked : List ℕ → Bool
   is_picked n = picked (items.Grouping n)
 

@@ -17,10 +17,11 @@ use Rattle.sbl_semantics.specs.Items.{DeclaredNames, is_member, place_of, names_
 use Rattle.sbl_semantics.specs.Regions.{number_after}
 use Rattle.sbl_machine.specs.BuiltFrom.{IsClosed, IsClosedAt}
 use Rattle.sbl_machine.specs.Holes.{nothing, with_holes, others_with_holes, holed_plain, holed_item, holed_script}
-use Rattle.sbl_semantics.specs.TouchedItems.{Item', Routine, Among, Grouping, names_of}
+use Rattle.sbl_semantics.specs.TouchedItems.{names_of}
+use Rattle.sbl_ast.specs.NamedParts.{Part', Routine, Among, Grouping}
 use Rattle.sbl_ast.specs.Source.{Source}
 
-module _ (picked : Item' → Bool) where
+module _ (picked : Part' → Bool) where
   abbrev pub holed_in_mode : ItemInMode → ItemInMode
   holed_in_mode x = record { mode = x.mode; plain = holed_plain picked x.plain }
 

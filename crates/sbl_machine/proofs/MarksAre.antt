@@ -20,7 +20,8 @@ use Rattle.sbl_machine.specs.BuiltFrom.{is_affected_by, affected_by}
 use Rattle.sbl_machine.specs.inside.BuiltFromParts.{built_after}
 use Rattle.sbl_machine.specs.Marking.{amongs_after, amongs_in, groupings_after, with_names, marks_of, routines_after, with_searches, searches}
 use Rattle.sbl_machine.specs.Marks.{AreMarksOf, has_item}
-use Rattle.sbl_semantics.specs.TouchedItems.{Item', Routine, Among, Grouping, item_of_touch, names_of}
+use Rattle.sbl_semantics.specs.TouchedItems.{item_of_touch, names_of}
+use Rattle.sbl_ast.specs.NamedParts.{Part', Routine, Among, Grouping}
 use Rattle.sbl_machine.proofs.BuiltFrom.{built_back}
 use Rattle.sbl_machine.proofs.Several.{built_from_several, or_false}
 use Rattle.sbl_machine.proofs.NotEmpty.{groupings_named, routines_named}
@@ -187,12 +188,12 @@ one_more false true c = refl
 one_more false false c = refl
 
 module _ (p : List ℕ → Bool) where
-  abbrev routine_passes : Item' → Bool
+  abbrev routine_passes : Part' → Bool
   routine_passes (Routine n) = p n
   routine_passes (Among n k) = false
   routine_passes (Grouping n) = false
 
-  any_routine : (xs : List Item') (ns : List (List ℕ)) → list_any p (routines_after xs ns) ≡ (list_any p ns || list_any routine_passes xs)
+  any_routine : (xs : List Part') (ns : List (List ℕ)) → list_any p (routines_after xs ns) ≡ (list_any p ns || list_any routine_passes xs)
   any_routine [] ns = sym (or_false (list_any p ns))
   any_routine (Routine n ∷ xs) ns =
       any_routine xs (ns ++ n ∷ [])
@@ -201,12 +202,12 @@ module _ (p : List ℕ → Bool) where
   any_routine (Among n k ∷ xs) ns = any_routine xs ns
   any_routine (Grouping n ∷ xs) ns = any_routine xs ns
 
-  abbrev grouping_passes : Item' → Bool
+  abbrev grouping_passes : Part' → Bool
   grouping_passes (Routine n) = false
   grouping_passes (Among n k) = false
   grouping_passes (Grouping n) = p n
 
-  any_grouping : (xs : List Item') (ns : List (List ℕ)) → list_any p (groupings_after xs ns) ≡ (list_any p ns || list_any grouping_passes xs)
+  any_grouping : (xs : List Part') (ns : List (List ℕ)) → list_any p (groupings_after xs ns) ≡ (list_any p ns || list_any grouping_passes xs)
   any_grouping [] ns = sym (or_false (list_any p ns))
   any_grouping (Grouping n ∷ xs) ns =
       any_grouping xs (ns ++ n ∷ [])
@@ -247,16 +248,16 @@ module _ (s : Source) (spelled : AreSpelled s.items) where
 
   -- ---- routines
 
-  routine_is : (n : List ℕ) (x : Item') → routine_passes (λ m. bytes_eq m n) x ≡ is_affected_by s x (Routine n)
+  routine_is : (n : List ℕ) (x : Part') → routine_passes (λ m. bytes_eq m n) x ≡ is_affected_by s x (Routine n)
   routine_is n (Routine m) = refl
   routine_is n (Among m k) = refl
   routine_is n (Grouping m) = refl
 
-  routines_are : (xs : List Item') (n : List ℕ) → is_member (routines_after xs []) n ≡ list_any (λ x. is_affected_by s x (Routine n)) xs
+  routines_are : (xs : List Part') (n : List ℕ) → is_member (routines_after xs []) n ≡ list_any (λ x. is_affected_by s x (Routine n)) xs
   routines_are xs n =
-      among_any (routines_after xs []) n ∙ any_routine (λ m. bytes_eq m n) xs [] ∙ ap (λ (p : Item' → Bool). list_any p xs) (fun_ext (routine_is n))
+      among_any (routines_after xs []) n ∙ any_routine (λ m. bytes_eq m n) xs [] ∙ ap (λ (p : Part' → Bool). list_any p xs) (fun_ext (routine_is n))
 
-  named_routine : (x : Item') → has_item (names_of s) x ≡ true → is_affected_by s x (Routine []) ≡ false
+  named_routine : (x : Part') → has_item (names_of s) x ≡ true → is_affected_by s x (Routine []) ≡ false
   named_routine (Routine n) there = has_name routines n (routines_named s.items spelled) there
   named_routine (Among n k) there = refl
   named_routine (Grouping n) there = refl
@@ -270,32 +271,32 @@ module _ (s : Source) (spelled : AreSpelled s.items) where
       not_then (is_member (built_after items (n ∷ [])) []) (is_member (n ∷ []) []) (built_back items (n ∷ []) [] none)
       (ap (λ (b : Bool). if b then true else false) (has_name (known_in items kinds.Groupings) n none there))
 
-  grouping_is : (n : List ℕ) (x : Item') → grouping_passes (λ m. is_member (built_after items (m ∷ [])) n) x ≡ is_affected_by s x (Grouping n)
+  grouping_is : (n : List ℕ) (x : Part') → grouping_passes (λ m. is_member (built_after items (m ∷ [])) n) x ≡ is_affected_by s x (Grouping n)
   grouping_is n (Routine m) = refl
   grouping_is n (Among m k) = refl
   grouping_is n (Grouping m) = refl
 
-  groupings_are : (xs : List Item') (n : List ℕ) → is_member (built_after items (groupings_after xs [])) n ≡ list_any (λ x. is_affected_by s x (Grouping n)) xs
+  groupings_are : (xs : List Part') (n : List ℕ) → is_member (built_after items (groupings_after xs [])) n ≡ list_any (λ x. is_affected_by s x (Grouping n)) xs
   groupings_are xs n =
       built_from_several items (groupings_after xs []) n
       ∙ any_grouping (λ m. is_member (built_after items (m ∷ [])) n) xs []
-      ∙ ap (λ (p : Item' → Bool). list_any p xs) (fun_ext (grouping_is n))
+      ∙ ap (λ (p : Part' → Bool). list_any p xs) (fun_ext (grouping_is n))
 
-  named_grouping : (x : Item') → has_item (names_of s) x ≡ true → is_affected_by s x (Grouping []) ≡ false
+  named_grouping : (x : Part') → has_item (names_of s) x ≡ true → is_affected_by s x (Grouping []) ≡ false
   named_grouping (Routine n) there = refl
   named_grouping (Among n k) there = refl
   named_grouping (Grouping n) there = built_named n there
 
   -- ---- amongs
 
-  named_among : (k : ℕ) (x : Item') → has_item (names_of s) x ≡ true → is_affected_by s x (Among [] k) ≡ false
+  named_among : (k : ℕ) (x : Part') → has_item (names_of s) x ≡ true → is_affected_by s x (Among [] k) ≡ false
   named_among k (Routine n) there = refl
   named_among k (Among n l) there = ap (λ (b : Bool). b && nat_eq l k) (has_name routines n (routines_named s.items spelled) there)
   named_among k (Grouping n) there = refl
 
   module _ (l : ℕ) where
     -- the among with number l is one of those collected so far, or of the items to come
-    any_among : (n : List ℕ) (xs : List Item') (ks : List ℕ) → list_any (nat_eq l) (amongs_after n xs ks) ≡ (list_any (nat_eq l) ks || list_any (λ x. is_affected_by s x (Among n (suc l))) xs)
+    any_among : (n : List ℕ) (xs : List Part') (ks : List ℕ) → list_any (nat_eq l) (amongs_after n xs ks) ≡ (list_any (nat_eq l) ks || list_any (λ x. is_affected_by s x (Among n (suc l))) xs)
     any_among n [] ks = sym (or_false (list_any (nat_eq l) ks))
     any_among n (Routine m ∷ xs) ks = any_among n xs ks
     any_among n (Grouping m ∷ xs) ks = any_among n xs ks
@@ -315,12 +316,12 @@ module _ (s : Source) (spelled : AreSpelled s.items) where
             ∙ ap (λ (b : Bool). list_any (nat_eq l) ks || (b || list_any (λ x. is_affected_by s x (Among n (suc l))) xs)) (next_same l k)
         by false rest = rest ks
 
-  amongs_are : (l : ℕ) (xs : List Item') (n : List ℕ) → list_any (nat_eq l) (amongs_in xs n) ≡ list_any (λ x. is_affected_by s x (Among n (suc l))) xs
+  amongs_are : (l : ℕ) (xs : List Part') (n : List ℕ) → list_any (nat_eq l) (amongs_in xs n) ≡ list_any (λ x. is_affected_by s x (Among n (suc l))) xs
   amongs_are l xs n = any_among l n xs []
 
   -- ---- all together
 
-  module _ (xs : List Item') (there : list_all (has_item (names_of s)) xs ≡ true) where
+  module _ (xs : List Part') (there : list_all (has_item (names_of s)) xs ≡ true) where
     abbrev search_touches : List Touch
     search_touches = searches (amongs_in xs) 0 routines []
 
@@ -362,7 +363,7 @@ module _ (s : Source) (spelled : AreSpelled s.items) where
         ∙ or_false (in_built n)
         ∙ groupings_are xs n
 
-  pub are_marks : (xs : List Item') → list_all (has_item (names_of s)) xs ≡ true → AreMarksOf s xs (marks_of (names_of s) items xs)
+  pub are_marks : (xs : List Part') → list_all (has_item (names_of s)) xs ≡ true → AreMarksOf s xs (marks_of (names_of s) items xs)
   are_marks xs there t =
       let built = fun_ext (among_is (built_after items (groupings_after xs []))) in
       let own = fun_ext (among_is (routines_after xs [])) in

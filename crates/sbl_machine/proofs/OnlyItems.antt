@@ -11,16 +11,16 @@ use Rattle.sbl_parser.proofs.OneTree.{trees_are_one}
 use Rattle.sbl_machine.specs.DifferLaws.{AlikeDifferNowhere, MoreDiffers, OnlyItemsDiffer}
 use Rattle.sbl_semantics.specs.DiffersByParts.{join, differ_plain, differ_plains, differ_item, differ_items}
 use Rattle.sbl_machine.specs.Holes.{holed_plain, holed_item}
-use Rattle.sbl_semantics.specs.TouchedItems.{Item'}
+use Rattle.sbl_ast.specs.NamedParts.{Part'}
 use Rattle.sbl_machine.proofs.DiffersAgree.{agree_outside}
 use Rattle.sbl_semantics.proofs.ByParts.{by_parts}
 use Rattle.sbl_semantics.proofs.DiffersSelf.{items_self}
 use Rattle.sbl_semantics.proofs.SameSelf.{name_self}
 
-abbrev all : Item' → Bool
+abbrev all : Part' → Bool
 all x = true
 
-all_pass : (xs : List Item') → list_all all xs ≡ true
+all_pass : (xs : List Part') → list_all all xs ≡ true
 all_pass [] = refl
 all_pass (x ∷ xs) = all_pass xs
 

@@ -4,7 +4,8 @@ use Rattle.std.specs.BTreeSet.{insert_key}
 use Rattle.std.specs.declared.cmp.Ordering.{Ordering}
 use Rattle.std.specs.declared.cmp.Ordering.TheVariants.{Less, Equal, Greater}
 use Rattle.std.specs.Ordering.{match_ordering}
-use Rattle.sbl_semantics.specs.TouchedItems.{Item', item_cmp, item_of}
+use Rattle.sbl_semantics.specs.TouchedItems.{item_cmp, item_of}
+use Rattle.sbl_ast.specs.NamedParts.{Part'}
 use Rattle.sbl_semantics.specs.contracts.item.ItemOrd.TheImpl as owned
 use Rattle.sbl_semantics.specs.declared.item.Item.{Item}
 use Rattle.sbl_semantics.specs.declared.item.Item.TheVariants as code
@@ -13,8 +14,8 @@ use Rattle.sbl_machine.specs.contracts.item_ref.ItemRefOrd.TheImpl as borrowed
 use Rattle.sbl_machine.specs.declared.item_ref.ItemRef.{ItemRef}
 use Rattle.sbl_machine.specs.declared.item_ref.ItemRef.TheVariants as ref
 
-module _ {A : Type 0} (view : A → Item') (cmp : A → A → Ordering) where
-  inserted_step : (x : A) (xs : List A) (k : A) (ys : List Item') (r : Ordering) → map view (insert_key cmp xs k) ≡ ys → map view (match_ordering r (k ∷ x ∷ xs) (x ∷ xs) (x ∷ insert_key cmp xs k)) ≡ match_ordering r (view k ∷ view x ∷ map view xs) (view x ∷ map view xs) (view x ∷ ys)
+module _ {A : Type 0} (view : A → Part') (cmp : A → A → Ordering) where
+  inserted_step : (x : A) (xs : List A) (k : A) (ys : List Part') (r : Ordering) → map view (insert_key cmp xs k) ≡ ys → map view (match_ordering r (k ∷ x ∷ xs) (x ∷ xs) (x ∷ insert_key cmp xs k)) ≡ match_ordering r (view k ∷ view x ∷ map view xs) (view x ∷ map view xs) (view x ∷ ys)
   inserted_step x xs k ys Less e = refl
   inserted_step x xs k ys Equal e = refl
   inserted_step x xs k ys Greater e = ap (λ zs. view x ∷ zs) e

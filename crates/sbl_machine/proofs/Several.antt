@@ -15,7 +15,8 @@ use Rattle.sbl_machine.specs.inside.BuiltFromParts.{names}
 use Rattle.sbl_machine.specs.inside.BuiltFromParts.{built_on, built_after}
 use Rattle.sbl_machine.specs.DifferLaws.{OneAffects, OneMeets}
 use Rattle.sbl_semantics.specs.Outcome.{touches_of}
-use Rattle.sbl_semantics.specs.TouchedItems.{Item', Routine, Among, Grouping, item_of_touch, names_of}
+use Rattle.sbl_semantics.specs.TouchedItems.{item_of_touch, names_of}
+use Rattle.sbl_ast.specs.NamedParts.{Part', Routine, Among, Grouping}
 use Rattle.sbl_machine.proofs.BuiltFrom.{affected_closed, built_more}
 use Rattle.sbl_semantics.proofs.SameSelf.{also, name_self}
 use Rattle.sbl_ast.specs.Source.{Source}
@@ -80,8 +81,8 @@ module _ {X : Type 0} (choose : X → List ℕ → Bool) (xs : List X) where
 
 -- ---- closed sets together are closed
 
-module _ {X : Type 0} (picked : X → Item' → Bool) (xs : List X) where
-  abbrev one_picks : Item' → Bool
+module _ {X : Type 0} (picked : X → Part' → Bool) (xs : List X) where
+  abbrev one_picks : Part' → Bool
   one_picks y = list_any (λ x. picked x y) xs
 
   closed_at : (x : Plain) → ((k : X) → IsClosedAt (picked k) x) → IsClosedAt one_picks x
@@ -96,17 +97,17 @@ module _ {X : Type 0} (picked : X → Item' → Bool) (xs : List X) where
   closed_in [] each = tt
   closed_in (x ∷ is) each = (closed_at x.plain (λ k. (each k).0), closed_in is (λ k. (each k).1))
 
-pub several_closed : WellDeclaredPasses → (s : Source) → WellDeclared s.items s.external → (xs : List Item') → IsClosed (affected_by s xs) s
+pub several_closed : WellDeclaredPasses → (s : Source) → WellDeclared s.items s.external → (xs : List Part') → IsClosed (affected_by s xs) s
 several_closed passes s well xs = closed_in (is_affected_by s) xs (in_order s.items) (λ x. affected_closed passes s well x)
 
 -- ---- an item affects itself
 
-affects_itself : (s : Source) (x : Item') → is_affected_by s x x ≡ true
+affects_itself : (s : Source) (x : Part') → is_affected_by s x x ≡ true
 affects_itself s (Routine n) = name_self n
 affects_itself s (Among n k) = also _ _ (name_self n) (eq-eqb k k refl)
 affects_itself s (Grouping n) = built_more (in_order s.items) (n ∷ []) n (ap (λ (b : Bool). if b then true else false) (name_self n))
 
-pub all_affected : (s : Source) (xs : List Item') → list_all (affected_by s xs) xs ≡ true
+pub all_affected : (s : Source) (xs : List Part') → list_all (affected_by s xs) xs ≡ true
 all_affected s xs = each_has (is_affected_by s) (affects_itself s) xs xs (λ y h. h)
 
 -- ---- one item
@@ -116,7 +117,7 @@ one_affects s x y = or_false (is_affected_by s x y)
 
 pub one_meets : OneMeets
 unfolding meets meets_one
-one_meets x s word limit = ap (λ (p : Item' → Bool). list_any p (map (item_of_touch (names_of s)) (touches_of s word limit))) (fun_ext (one_affects s x))
+one_meets x s word limit = ap (λ (p : Part' → Bool). list_any p (map (item_of_touch (names_of s)) (touches_of s word limit))) (fun_ext (one_affects s x))
 
 -- ---- what is built from several groupings
 

@@ -12,26 +12,27 @@ use Rattle.std.proofs.Math.Path.{fun_ext}
 use Rattle.std.proofs.lemmas.Cmp.{nat_cmp_total, nat_list_cmp_total, on_total, then_total}
 use Rattle.sbl_machine.specs.Frame.{TouchedRise}
 use Rattle.sbl_semantics.specs.Outcome.{touches_of}
-use Rattle.sbl_semantics.specs.TouchedItems.{Item', Routine, Among, Grouping, item_cmp, item_of_touch, in_item_order, names_of, touched_items}
+use Rattle.sbl_semantics.specs.TouchedItems.{item_cmp, item_of_touch, in_item_order, names_of, touched_items}
+use Rattle.sbl_ast.specs.NamedParts.{Part', Routine, Among, Grouping}
 
 -- ---- the order of items is that of their kinds, then of their names, then of their numbers
 
-kind_of : Item' → ℕ
+kind_of : Part' → ℕ
 kind_of (Routine n) = 0
 kind_of (Among n k) = 1
 kind_of (Grouping n) = 2
 
-name_of : Item' → List ℕ
+name_of : Part' → List ℕ
 name_of (Routine n) = n
 name_of (Among n k) = n
 name_of (Grouping n) = n
 
-number_of : Item' → ℕ
+number_of : Part' → ℕ
 number_of (Routine n) = 0
 number_of (Among n k) = k
 number_of (Grouping n) = 0
 
-abbrev by_parts : Item' → Item' → Ordering
+abbrev by_parts : Part' → Part' → Ordering
 by_parts = then_cmp (on kind_of nat_cmp) (then_cmp (on name_of (slice_cmp nat_cmp)) (on number_of nat_cmp))
 
 then_same : (o : Ordering) → ordering_then o Equal ≡ o
@@ -39,7 +40,7 @@ then_same Less = refl
 then_same Equal = refl
 then_same Greater = refl
 
-parts : (x y : Item') → by_parts x y ≡ item_cmp x y
+parts : (x y : Part') → by_parts x y ≡ item_cmp x y
 unfolding kind_of name_of number_of
 parts (Routine m) (Routine n) = then_same (slice_cmp nat_cmp m n)
 parts (Routine m) (Among n l) = refl
@@ -58,14 +59,14 @@ item_total =
 
 -- ---- what is inserted into items that rise
 
-abbrev Below : Item' → List Item' → Type 0
+abbrev Below : Part' → List Part' → Type 0
 Below x xs = AllByRecursion (λ y. item_cmp x y ≡ Less) xs
 
-below_later : (k x : Item') → item_cmp k x ≡ Less → (xs : List Item') → Below x xs → Below k xs
+below_later : (k x : Part') → item_cmp k x ≡ Less → (xs : List Part') → Below x xs → Below k xs
 below_later k x h [] b = tt
 below_later k x h (y ∷ xs) b = (item_total.trans k x y h b.0, below_later k x h xs b.1)
 
-below_inserted : (x k : Item') → item_cmp x k ≡ Less → (xs : List Item') → Below x xs → Below x (insert_key item_cmp xs k)
+below_inserted : (x k : Part') → item_cmp x k ≡ Less → (xs : List Part') → Below x xs → Below x (insert_key item_cmp xs k)
 below_inserted x k h [] b = (h, tt)
 below_inserted x k h (y ∷ xs) b = by (item_cmp k y) refl (below_inserted x k h xs b.1)
   where
@@ -74,10 +75,10 @@ below_inserted x k h (y ∷ xs) b = by (item_cmp k y) refl (below_inserted x k h
     by Equal e rest = rw e b
     by Greater e rest = rw e (b.0, rest)
 
-greater_is_less : (x k : Item') → item_cmp k x ≡ Greater → item_cmp x k ≡ Less
+greater_is_less : (x k : Part') → item_cmp k x ≡ Greater → item_cmp x k ≡ Less
 greater_is_less x k h = item_total.antisymm x k ∙ ap ordering_reverse h
 
-rises_inserted : (ks : List Item') (k : Item') → IsStrictlySortedBy item_cmp ks → IsStrictlySortedBy item_cmp (insert_key item_cmp ks k)
+rises_inserted : (ks : List Part') (k : Part') → IsStrictlySortedBy item_cmp ks → IsStrictlySortedBy item_cmp (insert_key item_cmp ks k)
 unfolding IsStrictlySortedBy
 rises_inserted [] k s = (tt, tt)
 rises_inserted (x ∷ xs) k s = by (item_cmp k x) refl (rises_inserted xs k s.1)
@@ -87,7 +88,7 @@ rises_inserted (x ∷ xs) k s = by (item_cmp k x) refl (rises_inserted xs k s.1)
     by Equal e rest = rw e s
     by Greater e rest = rw e (below_inserted x k (greater_is_less x k e) xs s.0, rest)
 
-pub ordered_rises : (xs : List Item') → IsStrictlySortedBy item_cmp (in_item_order xs)
+pub ordered_rises : (xs : List Part') → IsStrictlySortedBy item_cmp (in_item_order xs)
 unfolding IsStrictlySortedBy
 ordered_rises [] = tt
 ordered_rises (x ∷ xs) = rises_inserted (in_item_order xs) x (ordered_rises xs)

@@ -1,7 +1,7 @@
 -- A script with holes in place of some of its items. Of an among the hole keeps only how many amongs it holds; of a
 -- routine or a grouping, only the name.
 use Rattle.std.specs.Prelude.{ℕ, suc, Bool, [], map, None, if◌then◌else◌}
-use Rattle.sbl_semantics.specs.TouchedItems.{Item', Routine, Among, Grouping}
+use Rattle.sbl_ast.specs.NamedParts.{Part', Routine, Among, Grouping}
 use Rattle.sbl_semantics.specs.Regions.{number_after, number_after_others, number_after_rows, number_after_starter}
 use Rattle.sbl_ast.specs.Source.{Source}
 use Rattle.sbl_ast.specs.Tree.{QuotedText, Plain, Item, bracket, prefixed, counted, setlimit_, among_, no_rows, row, no_others, joined}
@@ -75,7 +75,7 @@ module _ (picked : ℕ → Bool) where
     groups_with_holes k (group e es rs gs) = group e es (rows_with_holes k rs) (groups_with_holes (number_after_rows rs k) gs)
 
 -- a script with holes in place of the picked items
-module _ (picked : Item' → Bool) where
+module _ (picked : Part' → Bool) where
   abbrev pub holed_plain : Plain → Plain
   holed_plain (routine n c os) =
       if picked (Routine n) then routine n (bracket no_rows) no_others

@@ -1,5 +1,4 @@
 -- definitions that the contracts of public functions use
-pub mod EditedItem
 pub mod BuiltFrom
 pub mod Why
 pub mod Holes

@@ -9,43 +9,44 @@ use Rattle.sbl_machine.specs.AmongList.{with_number}
 use Rattle.sbl_machine.specs.declared.marks.ItemKind.{ItemKind}
 use Rattle.sbl_machine.specs.declared.marks.ItemKind.TheVariants as kinds
 use Rattle.sbl_machine.specs.inside.BuiltFromParts.{built_after}
-use Rattle.sbl_semantics.specs.TouchedItems.{Item', Routine, Among, Grouping, Names'}
+use Rattle.sbl_semantics.specs.TouchedItems.{Names'}
+use Rattle.sbl_ast.specs.NamedParts.{Part', Routine, Among, Grouping}
 
 -- ---- the names of the routines and of the groupings among some items, and the amongs of each routine
 
 -- the names, with that of the item if it is a routine
-abbrev pub and_routine : Item' → List (List ℕ) → List (List ℕ)
+abbrev pub and_routine : Part' → List (List ℕ) → List (List ℕ)
 and_routine (Routine n) ns = ns ++ n ∷ []
 and_routine (Among n k) ns = ns
 and_routine (Grouping n) ns = ns
 
-abbrev pub routines_after : List Item' → List (List ℕ) → List (List ℕ)
+abbrev pub routines_after : List Part' → List (List ℕ) → List (List ℕ)
 routines_after [] ns = ns
 routines_after (x ∷ xs) ns = routines_after xs (and_routine x ns)
 
 -- the names, with that of the item if it is a grouping
-abbrev pub and_grouping : Item' → List (List ℕ) → List (List ℕ)
+abbrev pub and_grouping : Part' → List (List ℕ) → List (List ℕ)
 and_grouping (Routine n) ns = ns
 and_grouping (Among n k) ns = ns
 and_grouping (Grouping n) ns = ns ++ n ∷ []
 
-abbrev pub groupings_after : List Item' → List (List ℕ) → List (List ℕ)
+abbrev pub groupings_after : List Part' → List (List ℕ) → List (List ℕ)
 groupings_after [] ns = ns
 groupings_after (x ∷ xs) ns = groupings_after xs (and_grouping x ns)
 
 -- the numbers ks, with that of the item if it is an among of routine n; numbers are counted from 0
-abbrev pub and_among : List ℕ → Item' → List ℕ → List ℕ
+abbrev pub and_among : List ℕ → Part' → List ℕ → List ℕ
 and_among n (Routine m) ks = ks
 and_among n (Among m zero) ks = ks
 and_among n (Among m (suc k)) ks = with_number m k n ks
 and_among n (Grouping m) ks = ks
 
-abbrev pub amongs_after : List ℕ → List Item' → List ℕ → List ℕ
+abbrev pub amongs_after : List ℕ → List Part' → List ℕ → List ℕ
 amongs_after n [] ks = ks
 amongs_after n (x ∷ xs) ks = amongs_after n xs (and_among n x ks)
 
 -- the numbers of the amongs of each routine among some items
-abbrev pub amongs_in : List Item' → List ℕ → List ℕ
+abbrev pub amongs_in : List Part' → List ℕ → List ℕ
 amongs_in xs n = amongs_after n xs []
 
 -- ---- touches
@@ -77,5 +78,5 @@ with_marks names amongs routines groupings ts =
     (with_names (touch_of kinds.Routine) (is_one_of routines) 0 names.routines (searches amongs 0 names.routines ts))
 
 -- the touches of the amongs, the routines, and the groupings with those that are built from them
-abbrev pub marks_of : Names' → List ItemInMode → List Item' → List Touch
+abbrev pub marks_of : Names' → List ItemInMode → List Part' → List Touch
 marks_of names items xs = with_marks names (amongs_in xs) (routines_after xs []) (built_after items (groupings_after xs [])) []

@@ -27,7 +27,8 @@ use Rattle.sbl_parser.proofs.OneTree.{trees_are_one}
 use Rattle.sbl_script.specs.declared.edit_fault.EditFault.{EditFault}
 use Rattle.sbl_script.specs.declared.edit_fault.EditFault.TheVariants as edits
 use Rattle.sbl_script.specs.Reading.{HasTokens, IsFaultIn}
-use Rattle.sbl_script.specs.Edits.{ScriptEdit, body, among, terms, changes, is_routine_named, is_grouping_named, escapes_after, first_of, keeps_count, items_with, plains_of, plains_with, state_before, text_for, text_in, IsChanged, IsEdited, IsEditFault, IsMade, IsSubstituted}
+use Rattle.sbl_ast.specs.NamedParts.{Part', Routine as body, Among as among, Grouping as terms}
+use Rattle.sbl_script.specs.Edits.{changes, is_routine_named, is_grouping_named, escapes_after, first_of, keeps_count, items_with, plains_of, plains_with, state_before, text_for, text_in, IsChanged, IsEdited, IsEditFault, IsMade, IsSubstituted}
 use Rattle.sbl_script.specs.Homes.{Home, Walk, first_in, first_passing, home, home_in, home_of_among, home_of_body, home_of_held, home_of_terms, plain_if, state_reached, walk_in, walk_to, IsEditedAt, IsEditFaultAt, IsFaultAt, IsSubstitutedAt}
 use Rattle.sbl_script.proofs.AmongEnds.{after_same, inside}
 use Rattle.sbl_script.proofs.AmongDepths.{N, both_n, same_test, text_same, words_with}
@@ -108,7 +109,7 @@ abbrev text_at : Result Home EditFault → Result Text EditFault
 text_at (Ok h) = Ok h.text
 text_at (Err f) = Err f
 
-text_by : (items : List Item) (o : Option Plain) (e : ScriptEdit) → text_in o e ≡ text_at (home_in items o e)
+text_by : (items : List Item) (o : Option Plain) (e : Part') → text_in o e ≡ text_at (home_in items o e)
 text_by items (Some (routine m c os)) (body n) = refl
 text_by items (Some (routine m c os)) (among n k) = ap (λ (o : Option Text). ok_or o edits.NoAmong) (text_same (c, os) k) ∙ go (nth_held k (amongs_of_body (c, os))) where
   go : (o : Option AmongContents) → ok_or (option_map (λ (h : AmongContents). texts.among h.0) o) edits.NoAmong ≡ text_at (home_of_held items n (c, os) k o)
@@ -131,7 +132,7 @@ text_by items (Some (escapes a b)) (terms n) = refl
 text_by items (Some (macro m b q)) (terms n) = refl
 text_by items (Some (routine m c os)) (terms n) = refl
 
-texts_same : (items : List Item) (e : ScriptEdit) → text_for items e ≡ text_at (home items e)
+texts_same : (items : List Item) (e : Part') → text_for items e ≡ text_at (home items e)
 texts_same items e = ap (λ (o : Option Plain). text_in o e) (first_same (changes e) items) ∙ text_by items (first_passing (changes e) items) e
 
 home_there : (r : Result Home EditFault) (w : Text) → text_at r ≡ Ok w → (h : Home) × (r ≡ Ok h) × (h.text ≡ w)
@@ -142,10 +143,10 @@ err_there : (r : Result Home EditFault) (f : EditFault) → text_at r ≡ Err f 
 err_there (Ok h) f e = absurd cc
 err_there (Err g) f e = cc
 
-pub missing_out : (items : List Item) (e : ScriptEdit) (f : EditFault) → home items e ≡ Err f → text_for items e ≡ Err f
+pub missing_out : (items : List Item) (e : Part') (f : EditFault) → home items e ≡ Err f → text_for items e ≡ Err f
 missing_out items e f is = texts_same items e ∙ ap text_at is
 
-pub missing_in : (items : List Item) (e : ScriptEdit) (f : EditFault) → text_for items e ≡ Err f → home items e ≡ Err f
+pub missing_in : (items : List Item) (e : Part') (f : EditFault) → text_for items e ≡ Err f → home items e ≡ Err f
 missing_in items e f is = err_there (home items e) f (sym (texts_same items e) ∙ is)
 
 -- ---- tokens with those of another among
@@ -277,7 +278,7 @@ module _ (p : Plain → Bool) (y old : Plain) where
 
 -- ---- the place of an edit
 
-record Agrees (items : List Item) (e : ScriptEdit) (h : Home) : Type 0 where
+record Agrees (items : List Item) (e : Part') (h : Home) : Type 0 where
   state : state_before (changes e) items ≡ h.state
   made : (x : TreeOf h.text) → IsMade items e h.text x (h.around x)
   one : (x : TreeOf h.text) (js : List Item) → IsMade items e h.text x js → js ≡ h.around x
@@ -327,7 +328,7 @@ module _ (items : List Item) (n : List ℕ) where
         let w = words_with b k h a held in
         same_test (N (places (items_with r (new a) items))) (N (places items)) (count_in_among a) (count_in_among (h.1, h.2)) (λ e. omega (arith, e, i, w)) (λ e. omega (arith, e, i, w))
 
-agrees : (items : List Item) (e : ScriptEdit) (h : Home) (o : Option Plain) → first_passing (changes e) items ≡ o → home_in items o e ≡ Ok h → Agrees items e h
+agrees : (items : List Item) (e : Part') (h : Home) (o : Option Plain) → first_passing (changes e) items ≡ o → home_in items o e ≡ Ok h → Agrees items e h
 agrees items (body n) h (Some (routine m c os)) at is =
     let same : home_of_body items n ≡ h = cc in
     subst (Agrees items (body n)) same (body_agrees items n m c os at)
@@ -358,7 +359,7 @@ agrees items (terms n) h (Some (routine m c os)) at is = absurd cc
 
 -- ---- edits and their faults
 
-module _ (s : Source) (e : ScriptEdit) (text : List ℕ) where
+module _ (s : Source) (e : Part') (text : List ℕ) where
   agree : (h : Home) → home s.items e ≡ Ok h → Agrees s.items e h
   agree h there = agrees s.items e h (first_passing (changes e) s.items) refl there
 

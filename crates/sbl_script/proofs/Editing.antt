@@ -17,7 +17,8 @@ use Rattle.sbl_ast.specs.Source.{Source}
 use Rattle.sbl_resolver.specs.Checks.{WellDeclared, fault_of}
 use Rattle.sbl_script.specs.Reading.{HasTokens, IsTextFault, IsUnread, first_left_out, max_script, lexemes}
 use Rattle.sbl_script.specs.Refusals.{Refuses}
-use Rattle.sbl_script.specs.Edits.{ScriptEdit, body, among, terms, is_routine_named, is_grouping_named, text_for, IsEditFault}
+use Rattle.sbl_ast.specs.NamedParts.{Part', Routine as body, Among as among, Grouping as terms}
+use Rattle.sbl_script.specs.Edits.{is_routine_named, is_grouping_named, text_for, IsEditFault}
 use Rattle.sbl_script.specs.Homes.{Home, IsSubstitutedAt, first_passing, home, home_in, home_of_among, IsFaultAt, home_of_body, home_of_held, home_of_terms}
 use Rattle.sbl_script.proofs.Agreement.{fault_out, missing_in}
 
@@ -43,22 +44,22 @@ pub terms_home : (items : List Item) (n : List ℕ) (a : Argument) (ts : List Te
 terms_home items n a ts is = ap (λ (o : Option Plain). home_in items o (terms n)) is
 
 -- where there is a home nothing is missing
-pub not_missing : {X : Type 0} (items : List Item) (e : ScriptEdit) (h : Home) (r : Result X EditFault) → home items e ≡ Ok h → (f : EditFault) → text_for items e ≡ Err f → r ≡ Err f
+pub not_missing : {X : Type 0} (items : List Item) (e : Part') (h : Home) (r : Result X EditFault) → home items e ≡ Ok h → (f : EditFault) → text_for items e ≡ Err f → r ≡ Err f
 not_missing items e h r is f missing = let clash : Ok h ≡ Err f = sym is ∙ missing_in items e f missing in absurd cc
 
 err_same : (r : Result Home EditFault) (f g : EditFault) → r ≡ Err f → r ≡ Err g → f ≡ g
 err_same r f g a b = cc
 
 -- what is missing is told
-pub missing_told : {X : Type 0} (items : List Item) (e : ScriptEdit) (g : EditFault) (r : Result X EditFault) → home items e ≡ Err g → r ≡ Err g → (f : EditFault) → text_for items e ≡ Err f → r ≡ Err f
+pub missing_told : {X : Type 0} (items : List Item) (e : Part') (g : EditFault) (r : Result X EditFault) → home items e ≡ Err g → r ≡ Err g → (f : EditFault) → text_for items e ≡ Err f → r ≡ Err f
 missing_told items e g r is told f missing = told ∙ ap Err (err_same (home items e) g f is (missing_in items e f missing))
 
 -- ---- faults of the text
 
-abbrev pub Refused : Source → ScriptEdit → List ℕ → EditFault → Type 0
+abbrev pub Refused : Source → Part' → List ℕ → EditFault → Type 0
 Refused s e text f = (f ≡ edits.OutOfMemory) ⊎ IsEditFault s e text f
 
-pub told_as : (s : Source) (e : ScriptEdit) (h : Home) (text : List ℕ) (f : ScriptFault) (g : EditFault) → home s.items e ≡ Ok h → Refuses f g → (f ≡ fault.OutOfMemory) ⊎ IsFaultAt s h text f → Refused s e text g
+pub told_as : (s : Source) (e : Part') (h : Home) (text : List ℕ) (f : ScriptFault) (g : EditFault) → home s.items e ≡ Ok h → Refuses f g → (f ≡ fault.OutOfMemory) ⊎ IsFaultAt s h text f → Refused s e text g
 told_as s e h text f g there (inl memory) x = inl memory.1
 told_as s e h text f g there (inr other) (inl memory) = absurd (other.0 memory)
 told_as s e h text f g there (inr other) (inr x) = inr (subst (IsEditFault s e text) (sym other.1) (fault_out s e text (edits.Script f) (h, there, x)))

@@ -10,7 +10,8 @@ use Rattle.sbl_ast.specs.Tree.{Plain, declaration, escapes, macro, routine, grou
 use Rattle.sbl_ast.specs.Order.{ItemInMode, in_order}
 use Rattle.sbl_ast.specs.inside.OrderParts.{in_mode}
 use Rattle.sbl_resolver.specs.Bodies.{body_in}
-use Rattle.sbl_script.specs.Edits.{ScriptEdit, body, among, terms, changes, is_routine_named, is_grouping_named, plains_with, items_with}
+use Rattle.sbl_ast.specs.NamedParts.{Part', Routine as body, Among as among, Grouping as terms}
+use Rattle.sbl_script.specs.Edits.{changes, is_routine_named, is_grouping_named, plains_with, items_with}
 use Rattle.sbl_script.specs.Homes.{first_in, first_passing, plain_if}
 use Rattle.sbl_script.specs.OnlyTheItem.{number_from}
 
@@ -132,7 +133,7 @@ grouping_stays n x (grouping r c os) (macro k ns q) is e f = absurd cc
 grouping_stays n x (grouping r c os) (routine k a ts) is e f = absurd cc
 
 -- one definition for another that the same edit changes
-body_stays : (d : ScriptEdit) (x : List ℕ) (z y : Plain) (is : List Item) → changes d z ≡ true → changes d y ≡ true → is_some (body_in x (plain y ∷ is)) ≡ is_some (body_in x (plain z ∷ is))
+body_stays : (d : Part') (x : List ℕ) (z y : Plain) (is : List Item) → changes d z ≡ true → changes d y ≡ true → is_some (body_in x (plain y ∷ is)) ≡ is_some (body_in x (plain z ∷ is))
 body_stays (body n) = routine_stays n
 body_stays (among n k) = routine_stays n
 body_stays (terms n) = grouping_stays n
@@ -148,7 +149,7 @@ body_after x (escapes k ns) is js h = h
 body_after x (macro k ns q) is js h = h
 body_after x (grouping k a ts) is js h = h
 
-module _ (d : ScriptEdit) (y : Plain) (new : changes d y ≡ true) where
+module _ (d : Part') (y : Plain) (new : changes d y ≡ true) where
   abbrev p : Plain → Bool
   p = changes d
 

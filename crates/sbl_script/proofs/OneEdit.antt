@@ -10,7 +10,7 @@ use Rattle.sbl_script.specs.declared.edit_fault.EditFault.TheVariants as edits
 use Rattle.sbl_ast.specs.Source.{Source}
 use Rattle.sbl_resolver.specs.Checks.{fault_of}
 use Rattle.sbl_script.specs.Reading.{IsUnread, lexemes}
-use Rattle.sbl_script.specs.Edits.{ScriptEdit}
+use Rattle.sbl_ast.specs.NamedParts.{Part'}
 use Rattle.sbl_script.specs.Homes.{Home, IsEditedAt, IsSubstitutedAt, IsEditFaultAt, home, IsFaultAt}
 use Rattle.sbl_script.proofs.OneReading.{Facts, tree_one, fault_is_one, placed_one, no_text_fault, no_unread, some_none, same_source}
 
@@ -53,18 +53,18 @@ ok_or_err r h f a b = cc
 err_one : (r : Result Home EditFault) (f g : EditFault) → r ≡ Err f → r ≡ Err g → f ≡ g
 err_one r f g a b = cc
 
-pub edit_is_one : Facts → (s : Source) (e : ScriptEdit) (text : List ℕ) (t u : Source) → IsEditedAt s e text t → IsEditedAt s e text u → t ≡ u
+pub edit_is_one : Facts → (s : Source) (e : Part') (text : List ℕ) (t u : Source) → IsEditedAt s e text t → IsEditedAt s e text u → t ≡ u
 edit_is_one k s e text t u a b =
     let same = ok_one (home s.items e) a.0 b.0 a.1 b.1 in
     substituted_is_one k s a.0 text true true t u a.2 (subst (λ (z : Home). IsSubstitutedAt s z text true u) same b.2)
 
 -- two faults at one home, of which one is the number of amongs
-count_or_fault : Facts → (s : Source) (e : ScriptEdit) (text : List ℕ) (f : ScriptFault) → IsEditFaultAt s e text edits.AmongCount → IsEditFaultAt s e text (edits.Script f) → ⊥
+count_or_fault : Facts → (s : Source) (e : Part') (text : List ℕ) (f : ScriptFault) → IsEditFaultAt s e text edits.AmongCount → IsEditFaultAt s e text (edits.Script f) → ⊥
 count_or_fault k s e text f a b =
     let same = ok_one (home s.items e) a.0 b.0 a.1 b.1 in
     substituted_or_fault k s a.0 text false a.2 f a.3 (subst (λ (z : Home). IsFaultAt s z text f) same b.2)
 
-pub edit_fault_is_one : Facts → (s : Source) (e : ScriptEdit) (text : List ℕ) (f g : EditFault) → IsEditFaultAt s e text f → IsEditFaultAt s e text g → f ≡ g
+pub edit_fault_is_one : Facts → (s : Source) (e : Part') (text : List ℕ) (f g : EditFault) → IsEditFaultAt s e text f → IsEditFaultAt s e text g → f ≡ g
 edit_fault_is_one k s e text edits.NoRoutine edits.NoRoutine a b = refl
 edit_fault_is_one k s e text edits.NoRoutine edits.NoGrouping a b = err_one (home s.items e) edits.NoRoutine edits.NoGrouping a b
 edit_fault_is_one k s e text edits.NoRoutine edits.NoAmong a b = err_one (home s.items e) edits.NoRoutine edits.NoAmong a b
@@ -99,7 +99,7 @@ edit_fault_is_one k s e text edits.NoAmong edits.OutOfMemory a b = absurd b
 edit_fault_is_one k s e text edits.AmongCount edits.OutOfMemory a b = absurd b
 edit_fault_is_one k s e text (edits.Script f) edits.OutOfMemory a b = absurd b
 
-pub edit_or_fault : Facts → (s : Source) (e : ScriptEdit) (text : List ℕ) (t : Source) (f : EditFault) → IsEditedAt s e text t → IsEditFaultAt s e text f → ⊥
+pub edit_or_fault : Facts → (s : Source) (e : Part') (text : List ℕ) (t : Source) (f : EditFault) → IsEditedAt s e text t → IsEditFaultAt s e text f → ⊥
 edit_or_fault k s e text t edits.NoRoutine a b = ok_or_err (home s.items e) a.0 edits.NoRoutine a.1 b
 edit_or_fault k s e text t edits.NoGrouping a b = ok_or_err (home s.items e) a.0 edits.NoGrouping a.1 b
 edit_or_fault k s e text t edits.NoAmong a b = ok_or_err (home s.items e) a.0 edits.NoAmong a.1 b

@@ -23,9 +23,10 @@ use Rattle.sbl_resolver.specs.Checks.{kind_of, defined_at, definition_of, is_awa
 use Rattle.sbl_resolver.specs.inside.CheckParts.{declared_as, waits_after}
 use Rattle.sbl_resolver.specs.inside.CheckParts.{is_text, has_text, is_some_and}
 use Rattle.sbl_resolver.specs.Laws.{EachPasses, IsFirst}
-use Rattle.sbl_script.specs.Edits.{ScriptEdit, body, terms, changes, is_routine_named, is_grouping_named, items_with}
+use Rattle.sbl_ast.specs.NamedParts.{Part', Routine as body, Grouping as terms}
+use Rattle.sbl_script.specs.Edits.{changes, is_routine_named, is_grouping_named, items_with}
 use Rattle.sbl_script.specs.Homes.{Home, first_passing, home, home_in, home_of_among, home_of_body, home_of_held, home_of_terms, IsEditFaultAt, IsFaultAt}
-use Rattle.sbl_script.specs.Edits as script
+use Rattle.sbl_ast.specs.NamedParts as named
 use Rattle.sbl_script.specs.OnlyTheItem.{item_of, number_of, OnlyTheItem, ExternalStays}
 use Rattle.sbl_resolver.proofs.FirstFault as first
 use Rattle.sbl_script.proofs.Agreement.{fault_in}
@@ -188,9 +189,9 @@ two_groupings n x y p e f =
     (groupings_alike n p (own (grouping n a.0 a.1) p) (own (grouping n b.0 b.1) p) (grouping_parts n a.0 a.1 p) (grouping_parts n b.0 b.1 p) (plain_sites (grouping n a.0 a.1) p) (plain_sites (grouping n b.0 b.1) p)))
 
 -- two definitions that the same edit changes
-alike : (e : ScriptEdit) (x y : Plain) (p : Site) → changes e x ≡ true → changes e y ≡ true → Alike p.item (own x p) (own y p)
+alike : (e : Part') (x y : Plain) (p : Site) → changes e x ≡ true → changes e y ≡ true → Alike p.item (own x p) (own y p)
 alike (body n) = two_routines n
-alike (script.among n k) = two_routines n
+alike (named.Among n k) = two_routines n
 alike (terms n) = two_groupings n
 
 -- ---- where an occurrence stands
@@ -320,7 +321,7 @@ module _ (prefix mine other rest : List Occurrence) (i : ℕ) (closed : Closed p
 
 -- ---- a script
 
-module _ (items : List Item) (external : List ℕ) (d : ScriptEdit) (y : Plain) (same : changes d y ≡ true) (well : WellDeclared items external) where
+module _ (items : List Item) (external : List ℕ) (d : Part') (y : Plain) (same : changes d y ≡ true) (well : WellDeclared items external) where
   abbrev edited_items : List Item
   edited_items = items_with (changes d) y items
 
@@ -376,13 +377,13 @@ module _ (items : List Item) (external : List ℕ) (d : ScriptEdit) (y : Plain) 
         true_false false h g = cc
 
 -- an edit with a place puts another definition that it may change in the place of the first such
-pub record Replaces (items : List Item) (e : ScriptEdit) (h : Home) (x : TreeOf h.text) : Type 0 where
+pub record Replaces (items : List Item) (e : Part') (h : Home) (x : TreeOf h.text) : Type 0 where
   pub item : Plain
   pub there : is_some (first_passing (changes e) items) ≡ true
   pub same : changes e item ≡ true
   pub is : h.around x ≡ items_with (changes e) item items
 
-abbrev IsPlaced : List Item → ScriptEdit → Home → Type 0
+abbrev IsPlaced : List Item → Part' → Home → Type 0
 IsPlaced items e h = (x : TreeOf h.text) → Replaces items e h x
 
 is_there : (o : Option Plain) (x : Plain) → o ≡ Some x → is_some o ≡ true
@@ -391,15 +392,15 @@ is_there o x e = ap is_some e
 home_one : (r : Result Home EditFault) (h g : Home) → r ≡ Ok h → r ≡ Ok g → h ≡ g
 home_one r h g a b = cc
 
-place_of : (items : List Item) (e : ScriptEdit) (h : Home) (o : Option Plain) → first_passing (changes e) items ≡ o → home_in items o e ≡ Ok h → IsPlaced items e h
+place_of : (items : List Item) (e : Part') (h : Home) (o : Option Plain) → first_passing (changes e) items ≡ o → home_in items o e ≡ Ok h → IsPlaced items e h
 place_of items (body n) h (Some (routine m c os)) at is =
     subst (IsPlaced items (body n)) (home_one (home_in items (Some (routine m c os)) (body n)) (home_of_body items n) h refl is)
     (λ b. record { item = routine n b.0 b.1; there = is_there (first_passing (is_routine_named n) items) (routine m c os) at; same = same_name n; is = refl })
-place_of items (script.among n k) h (Some (routine m c os)) at is = held (nth_held k (amongs_of_body (c, os))) is where
-  held : (o : Option AmongContents) → home_of_held items n (c, os) k o ≡ Ok h → IsPlaced items (script.among n k) h
+place_of items (named.Among n k) h (Some (routine m c os)) at is = held (nth_held k (amongs_of_body (c, os))) is where
+  held : (o : Option AmongContents) → home_of_held items n (c, os) k o ≡ Ok h → IsPlaced items (named.Among n k) h
   held None e = absurd cc
   held (Some g) e =
-      subst (IsPlaced items (script.among n k)) (home_one (home_of_held items n (c, os) k (Some g)) (home_of_among items n (c, os) k g) h refl e)
+      subst (IsPlaced items (named.Among n k)) (home_one (home_of_held items n (c, os) k (Some g)) (home_of_among items n (c, os) k g) h refl e)
       (λ a. record { item = routine n (put_in_body (c, os) k a).0 (put_in_body (c, os) k a).1; there = is_there (first_passing (is_routine_named n) items) (routine m c os) at; same = same_name n; is = refl })
 place_of items (terms n) h (Some (grouping m a ts)) at is =
     subst (IsPlaced items (terms n)) (home_one (home_in items (Some (grouping m a ts)) (terms n)) (home_of_terms items n) h refl is)
@@ -409,11 +410,11 @@ place_of items (body n) h (Some (declaration d ns)) at is = absurd cc
 place_of items (body n) h (Some (escapes a b)) at is = absurd cc
 place_of items (body n) h (Some (macro m b q)) at is = absurd cc
 place_of items (body n) h (Some (grouping m a ts)) at is = absurd cc
-place_of items (script.among n k) h None at is = absurd cc
-place_of items (script.among n k) h (Some (declaration d ns)) at is = absurd cc
-place_of items (script.among n k) h (Some (escapes a b)) at is = absurd cc
-place_of items (script.among n k) h (Some (macro m b q)) at is = absurd cc
-place_of items (script.among n k) h (Some (grouping m a ts)) at is = absurd cc
+place_of items (named.Among n k) h None at is = absurd cc
+place_of items (named.Among n k) h (Some (declaration d ns)) at is = absurd cc
+place_of items (named.Among n k) h (Some (escapes a b)) at is = absurd cc
+place_of items (named.Among n k) h (Some (macro m b q)) at is = absurd cc
+place_of items (named.Among n k) h (Some (grouping m a ts)) at is = absurd cc
 place_of items (terms n) h None at is = absurd cc
 place_of items (terms n) h (Some (declaration d ns)) at is = absurd cc
 place_of items (terms n) h (Some (escapes a b)) at is = absurd cc
@@ -421,7 +422,7 @@ place_of items (terms n) h (Some (macro m b q)) at is = absurd cc
 place_of items (terms n) h (Some (routine m c os)) at is = absurd cc
 
 -- a check that fails tells the item
-check_tells : (s : Source) (e : ScriptEdit) (h : Home) (ts : List PlacedToken) (f : ScriptFault) → WellDeclared s.items s.external → home s.items e ≡ Ok h → ((tree : TreeOf h.text) × IsReadAs h.text (lexemes ts) tree × (fault_of (h.around tree) s.external ≡ Some f)) →
+check_tells : (s : Source) (e : Part') (h : Home) (ts : List PlacedToken) (f : ScriptFault) → WellDeclared s.items s.external → home s.items e ≡ Ok h → ((tree : TreeOf h.text) × IsReadAs h.text (lexemes ts) tree × (fault_of (h.around tree) s.external ≡ Some f)) →
     (i : ℕ) × (item_of f ≡ Some i) × (number_of (changes e) s.items ≡ Some i)
 check_tells s e h ts f well there bad =
     let r = place_of s.items e h (first_passing (changes e) s.items) refl there bad.0 in

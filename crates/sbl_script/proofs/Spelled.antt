@@ -28,8 +28,9 @@ use Rattle.sbl_ast.specs.Spelled.{spelled_command}
 use Rattle.sbl_ast.proofs.Lexed.{text_lexed}
 use Rattle.sbl_ast.proofs.After.{IsBefore, plain_before}
 use Rattle.sbl_parser.proofs.Faults.{tree_tokens}
-use Rattle.sbl_script.specs.Edits as edits
-use Rattle.sbl_script.specs.Edits.{ScriptEdit, changes, is_routine_named, is_grouping_named, escapes_after, items_with, plains_with}
+use Rattle.sbl_ast.specs.NamedParts as named
+use Rattle.sbl_ast.specs.NamedParts.{Part'}
+use Rattle.sbl_script.specs.Edits.{changes, is_routine_named, is_grouping_named, escapes_after, items_with, plains_with}
 use Rattle.sbl_script.specs.Homes.{Walk, escapes_before, first_in, first_passing, plain_if, walk_to, walk_in, state_reached}
 use Rattle.sbl_script.specs.Reading.{HasTokens, lexemes}
 use Rattle.sbl_script.specs.SpelledScript.{AreSpelled, IsSpelled}
@@ -144,16 +145,16 @@ after_plain e x r h = subst (λ (s : Directives). Say s r) (plain_sets e x) (par
 
 -- ---- with another definition
 
-sets_nothing : (d : ScriptEdit) (x : Plain) (e : InForce) → changes d x ≡ true → escapes_after e x ≡ e
+sets_nothing : (d : Part') (x : Plain) (e : InForce) → changes d x ≡ true → escapes_after e x ≡ e
 sets_nothing d (routine m c os) e h = refl
 sets_nothing d (grouping m a ts) e h = refl
 sets_nothing d (declaration k ns) e h = refl
-sets_nothing (edits.body n) (escapes a b) e h = absurd cc
-sets_nothing (edits.among n k) (escapes a b) e h = absurd cc
-sets_nothing (edits.terms n) (escapes a b) e h = absurd cc
-sets_nothing (edits.body n) (macro m b q) e h = absurd cc
-sets_nothing (edits.among n k) (macro m b q) e h = absurd cc
-sets_nothing (edits.terms n) (macro m b q) e h = absurd cc
+sets_nothing (named.Routine n) (escapes a b) e h = absurd cc
+sets_nothing (named.Among n k) (escapes a b) e h = absurd cc
+sets_nothing (named.Grouping n) (escapes a b) e h = absurd cc
+sets_nothing (named.Routine n) (macro m b q) e h = absurd cc
+sets_nothing (named.Among n k) (macro m b q) e h = absurd cc
+sets_nothing (named.Grouping n) (macro m b q) e h = absurd cc
 
 step_same : (e : InForce) (x : Plain) (r q : Ps) → (Say (no_directive (escapes_after e x)) r → Say (no_directive (escapes_after e x)) q) → Say (no_directive e) (placed_plain x r) → Say (no_directive e) (placed_plain x q)
 step_same e x r q f h =
@@ -168,7 +169,7 @@ plains_same : (xs : List Plain) (e : InForce) (r q : Ps) → (Say (no_directive 
 plains_same [] e r q f h = f h
 plains_same (x ∷ xs) e r q f h = step_same e x (placed_plains xs r) (placed_plains xs q) (λ z. plains_same xs (escapes_after e x) r q f z) h
 
-module _ (d : ScriptEdit) (y : Plain) (new : changes d y ≡ true) where
+module _ (d : Part') (y : Plain) (new : changes d y ≡ true) where
   abbrev p : Plain → Bool
   p = changes d
 
@@ -201,7 +202,7 @@ not_held p (x ∷ xs) e h = go (p x) h (λ l. not_held p xs (escapes_after e x) 
   go true l more = absurd cc
   go false l more = more l
 
-module _ (d : ScriptEdit) (y : Plain) (new : changes d y ≡ true) where
+module _ (d : Part') (y : Plain) (new : changes d y ≡ true) where
   abbrev q : Plain → Bool
   q = changes d
 
@@ -273,7 +274,7 @@ read_said s bytes ts w x has read =
 pub script_said : (bytes : List ℕ) (ts : List PlacedToken) (items : List Item) → HasTokens start bytes ts → IsReadAs script (lexemes ts) items → AreSpelled items
 script_said bytes ts items has read = read_said start bytes ts script items has read
 
-pub definition_replaced : (d : ScriptEdit) (y : Plain) (items : List Item) → changes d y ≡ true → AreSpelled items → IsSpelled (state_reached (changes d) items) y → AreSpelled (items_with (changes d) y items)
+pub definition_replaced : (d : Part') (y : Plain) (items : List Item) → changes d y ≡ true → AreSpelled items → IsSpelled (state_reached (changes d) items) y → AreSpelled (items_with (changes d) y items)
 definition_replaced d y items new h hy = items_said d y new items nothing_set hy h
 
 -- a routine with another body, or with another among in it, and a grouping with other terms

@@ -19,7 +19,8 @@ use Rattle.sbl_script.specs.declared.edit_fault.EditFault.TheVariants as edits
 use Rattle.sbl_ast.specs.Source.{Source}
 use Rattle.sbl_resolver.specs.Checks.{WellDeclared}
 use Rattle.sbl_script.specs.Reading.{HasTokens, IsFaultIn, first_left_out, lexemes}
-use Rattle.sbl_script.specs.Edits.{ScriptEdit, body, among, terms, changes, is_routine_named, is_grouping_named}
+use Rattle.sbl_ast.specs.NamedParts.{Part', Routine, Among, Grouping}
+use Rattle.sbl_script.specs.Edits.{changes, is_routine_named, is_grouping_named}
 use Rattle.sbl_script.specs.Edits.{escapes_after, plains_with, items_with}
 
 -- a search of trees found nothing, or a tree with this view
@@ -102,15 +103,15 @@ home_of_held items n b k o = ok_or (option_map (home_of_among items n b k) o) ed
 abbrev pub home_of_terms : List Item → List ℕ → Home
 home_of_terms items n = home_at items (is_grouping_named n) texts.terms (λ x. grouping n x.0 x.1) (λ x. true)
 
-abbrev pub home_in : List Item → Option Plain → ScriptEdit → Result Home EditFault
-home_in items (Some (routine m c os)) (body n) = Ok (home_of_body items n)
-home_in items (Some (routine m c os)) (among n k) = home_of_held items n (c, os) k (nth_held k (amongs_of_body (c, os)))
-home_in items (Some (grouping m a ts)) (terms n) = Ok (home_of_terms items n)
-home_in items _ (terms n) = Err edits.NoGrouping
+abbrev pub home_in : List Item → Option Plain → Part' → Result Home EditFault
+home_in items (Some (routine m c os)) (Routine n) = Ok (home_of_body items n)
+home_in items (Some (routine m c os)) (Among n k) = home_of_held items n (c, os) k (nth_held k (amongs_of_body (c, os)))
+home_in items (Some (grouping m a ts)) (Grouping n) = Ok (home_of_terms items n)
+home_in items _ (Grouping n) = Err edits.NoGrouping
 home_in items _ e = Err edits.NoRoutine
 
 -- the place that an edit changes; or the fault if the script lacks the definition, or else the among
-abbrev pub home : List Item → ScriptEdit → Result Home EditFault
+abbrev pub home : List Item → Part' → Result Home EditFault
 home items e = home_in items (first_passing (changes e) items) e
 
 -- ---- the script after an edit
@@ -129,7 +130,7 @@ pub record IsSubstitutedAt (s : Source) (h : Home) (text : List ℕ) (as_many : 
   pub counted : h.keeps_count tree ≡ as_many
 
 -- the script has the place that the edit changes; with the text there, and as many amongs as before, it is the script t
-abbrev pub IsEditedAt : Source → ScriptEdit → List ℕ → Source → Type 0
+abbrev pub IsEditedAt : Source → Part' → List ℕ → Source → Type 0
 IsEditedAt s e text t = (h : Home) × (home s.items e ≡ Ok h) × IsSubstitutedAt s h text true t
 
 -- ---- faults
@@ -138,7 +139,7 @@ abbrev pub IsFaultAt : Source → Home → List ℕ → ScriptFault → Type 0
 IsFaultAt s h text f = IsFaultIn h.text h.state h.around s.external text f
 
 -- what each fault of an edit means
-abbrev pub IsEditFaultAt : Source → ScriptEdit → List ℕ → EditFault → Type 0
+abbrev pub IsEditFaultAt : Source → Part' → List ℕ → EditFault → Type 0
 IsEditFaultAt s e text edits.AmongCount = (h : Home) × (home s.items e ≡ Ok h) × (t : Source) × IsSubstitutedAt s h text false t
 IsEditFaultAt s e text (edits.Script f) = (h : Home) × (home s.items e ≡ Ok h) × IsFaultAt s h text f
 IsEditFaultAt s e text edits.OutOfMemory = ⊥

@@ -7,7 +7,8 @@ use Rattle.sbl_ast.specs.Tree.{Plain, Item}
 use Rattle.sbl_script.specs.declared.edit_fault.EditFault.TheVariants as edits
 use Rattle.sbl_ast.specs.Source.{Source}
 use Rattle.sbl_resolver.specs.Checks.{WellDeclared}
-use Rattle.sbl_script.specs.Edits.{ScriptEdit, changes, IsEditFault}
+use Rattle.sbl_ast.specs.NamedParts.{Part'}
+use Rattle.sbl_script.specs.Edits.{changes, IsEditFault}
 
 -- the number of the item that a fault names, if it names one
 abbrev pub item_of : ScriptFault → Option ℕ
@@ -37,10 +38,10 @@ number_of p items = number_from p (in_order items) 1
 -- in a well-declared script, if a fault of an edit names an item, that item is the one that the edit changes
 abbrev pub OnlyTheItem : Type 0
 OnlyTheItem =
-    (s : Source) (e : ScriptEdit) (text : List ℕ) (f : ScriptFault) (i : ℕ) → WellDeclared s.items s.external → IsEditFault s e text (edits.Script f)
+    (s : Source) (e : Part') (text : List ℕ) (f : ScriptFault) (i : ℕ) → WellDeclared s.items s.external → IsEditFault s e text (edits.Script f)
     → item_of f ≡ Some i → number_of (changes e) s.items ≡ Some i
 
 -- an edit of a well-declared script never has the fault that there is no such external
 abbrev pub ExternalStays : Type 0
 ExternalStays =
-    (s : Source) (e : ScriptEdit) (text : List ℕ) → WellDeclared s.items s.external → IsEditFault s e text (edits.Script fault.NoExternal) → ⊥
+    (s : Source) (e : Part') (text : List ℕ) → WellDeclared s.items s.external → IsEditFault s e text (edits.Script fault.NoExternal) → ⊥

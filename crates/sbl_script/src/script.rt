@@ -152,7 +152,8 @@ impl Script {
     ghost use Rattle.sbl_script.specs.ParsedScript.{body_of};
     ghost use Rattle.sbl_print.specs.Canonical.{canonical};
     ghost use Rattle.sbl_script.specs.Reading.{HasTokens};
-    ghost use Rattle.sbl_script.specs.Edits.{IsEditFault, IsEdited, among, body, changes, items_with, terms, text_for};
+    ghost use Rattle.sbl_ast.specs.NamedParts.{Among as among, Routine as body, Grouping as terms};
+    ghost use Rattle.sbl_script.specs.Edits.{IsEditFault, IsEdited, changes, items_with, text_for};
     ghost use Rattle.sbl_script.specs.Homes.{state_reached};
     ghost use Rattle.sbl_script.specs.Parts.{view_part};
 

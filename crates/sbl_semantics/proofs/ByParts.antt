@@ -38,7 +38,7 @@ use Rattle.sbl_semantics.specs.Differs as new
 use Rattle.sbl_semantics.specs.DiffersByParts as old
 use Rattle.sbl_semantics.specs.Regions.{number_after, number_after_rows, number_after_others, number_after_starter}
 use Rattle.sbl_semantics.specs.Same.{same_argument, same_entry, same_expression, same_quoted, same_term}
-use Rattle.sbl_semantics.specs.TouchedItems.{Item', Routine, Among, Grouping}
+use Rattle.sbl_ast.specs.NamedParts.{Part', Routine, Among, Grouping}
 use Rattle.sbl_semantics.proofs.DiffersSelf.{self, plain_self}
 use Rattle.sbl_ast.specs.declared.mode.Mode.TheVariants.{Forward}
 use Rattle.sbl_semantics.specs.Landmarks.{amongs_in, landmarks, landmarks_in_others, landmarks_in_rows}
@@ -383,7 +383,7 @@ module _ (one_tree : (w : Text) (t u : TreeOf w) → tokens_of w t ≡ tokens_of
       let x = name_is m n g.0 in let y = base_is b c j.0 in let z = quoted_is q r j.1 in (λ i. macro (x i) (y i) (z i))) refl
   plains x y = plain_leaf x y false never refl
 
-  each : {X : Type 0} (one other : X → X → Option (List Item')) → ((x y : X) → one x y ≡ other x y) → (xs ys : List X) → new.differ_each one xs ys ≡ old.differ_each other xs ys
+  each : {X : Type 0} (one other : X → X → Option (List Part')) → ((x y : X) → one x y ≡ other x y) → (xs ys : List X) → new.differ_each one xs ys ≡ old.differ_each other xs ys
   each one other same [] [] = refl
   each one other same (x ∷ xs) (y ∷ ys) =
       let pairs = foldr new.join (Some []) (map (λ p. one p.0 p.1) (zip xs ys)) in
@@ -407,4 +407,4 @@ module _ (one_tree : (w : Text) (t u : TreeOf w) → tokens_of w t ≡ tokens_of
   items_by_parts xs ys = each new.differ_item old.differ_item items xs ys
 
   pub by_parts : (s t : Source) → new.differs s t ≡ old.differs_by_parts s t
-  by_parts s t = ap (λ (r : Option (List Item')). if bytes_eq s.external t.external then r else None) (items_by_parts s.items t.items)
+  by_parts s t = ap (λ (r : Option (List Part')). if bytes_eq s.external t.external then r else None) (items_by_parts s.items t.items)

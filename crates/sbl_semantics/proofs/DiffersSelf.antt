@@ -17,7 +17,7 @@ use Rattle.sbl_ast.specs.contracts.tree.DeclarationKind as kind
 use Rattle.sbl_ast.specs.Tree.{Command, Rows, Others, Starter, Groups, bracket, simple_, literal_, name_, non_, prefixed, counted, move_, named, splice_, setlimit_, assign_, compare_, compare_values_, among_, no_rows, row, no_others, joined, no_starter, starter, bare, group, Plain, declaration, escapes, macro, routine, grouping, Item, plain, backward}
 use Rattle.sbl_semantics.specs.Regions.{number_after, number_after_rows, number_after_others, number_after_starter}
 use Rattle.sbl_semantics.specs.DiffersByParts.{when, join, differ, differ_rows, differ_others, differ_starter, differ_groups, items_by, differ_plain, differ_plains, differ_item, differ_items}
-use Rattle.sbl_semantics.specs.TouchedItems.{Grouping}
+use Rattle.sbl_ast.specs.NamedParts.{Grouping}
 use Rattle.sbl_semantics.proofs.SameSelf.{also, name_self, flag_self, quoted_self, argument_self, expression_self, entry_self, entries_self, names_self, base_self, terms_self}
 
 abbrev pub Nowhere : {X : Type 0} → Option (List X) → Type 0

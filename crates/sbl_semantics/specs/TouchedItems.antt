@@ -8,6 +8,7 @@ use Rattle.std.specs.Ordering.{nat_cmp, ordering_then}
 use Rattle.std.specs.Cmp.Lexicographic.{slice_cmp}
 use Rattle.std.specs.BTreeSet.{BTreeSet, insert_key}
 use Rattle.sbl_ast.specs.Folds.{foldr}
+use Rattle.sbl_ast.specs.NamedParts.{Part', Routine, Among, Grouping}
 use Rattle.sbl_ast.specs.Order.{in_order}
 use Rattle.sbl_ast.specs.declared.tree.DeclarationKind.TheVariants as kinds
 use Rattle.sbl_semantics.specs.declared.item.Item.{Item}
@@ -18,19 +19,13 @@ use Rattle.sbl_semantics.specs.Outcome.{touches_of}
 use Rattle.sbl_semantics.specs.Items.{known_in}
 use Rattle.sbl_ast.specs.Source.{Source}
 
--- a routine or a grouping by its name; an among by its routine and its number there, counted from 1 in the order of the
--- words `among`
-pub data Item' : Type 0 where
-  Routine Grouping : List ℕ → Item'
-  Among : List ℕ → ℕ → Item'
-
 -- the item that the code's value represents
-abbrev pub item_of : Item → Item'
+abbrev pub item_of : Item → Part'
 item_of (code.Routine name) = Routine (string_bytes name)
 item_of (code.Among name k) = Among (string_bytes name) k
 item_of (code.Grouping name) = Grouping (string_bytes name)
 
-abbrev pub same_item : Item' → Item' → Bool
+abbrev pub same_item : Part' → Part' → Bool
 same_item (Routine m) (Routine n) = bytes_eq m n
 same_item (Among m k) (Among n l) = bytes_eq m n && nat_eq k l
 same_item (Grouping m) (Grouping n) = bytes_eq m n
@@ -47,19 +42,19 @@ abbrev pub names_of : Source → Names'
 names_of script = record { routines = known_in (in_order script.items) kinds.Routines; groupings = known_in (in_order script.items) kinds.Groupings }
 
 -- the item of a touch, by name
-abbrev pub item_of_touch : Names' → Touch → Item'
+abbrev pub item_of_touch : Names' → Touch → Part'
 item_of_touch names (Entered i) = Routine (slice_index_or names.routines i [])
 item_of_touch names (Searched i k) = Among (slice_index_or names.routines i []) (suc k)
 item_of_touch names (Tested g) = Grouping (slice_index_or names.groupings g [])
 
 -- whether a run of a script on a word, with this limit, touches an item
-unfoldable pub touches : Item' → Source → List ℕ → ℕ → Bool
+unfoldable pub touches : Part' → Source → List ℕ → ℕ → Bool
 touches x script word limit = list_any (same_item x) (map (item_of_touch (names_of script)) (touches_of script word limit))
 
 -- ---- the items touched, each once: routines by name in code point order, then amongs by name and number, then
 -- groupings by name
 
-abbrev pub item_cmp : Item' → Item' → Ordering
+abbrev pub item_cmp : Part' → Part' → Ordering
 item_cmp (Routine m) (Routine n) = slice_cmp nat_cmp m n
 item_cmp (Routine m) y = Less
 item_cmp (Among m k) (Routine n) = Greater
@@ -68,18 +63,18 @@ item_cmp (Among m k) (Grouping n) = Less
 item_cmp (Grouping m) (Grouping n) = slice_cmp nat_cmp m n
 item_cmp (Grouping m) y = Greater
 
-unfoldable pub touched_items : Source → List ℕ → ℕ → List Item'
+unfoldable pub touched_items : Source → List ℕ → ℕ → List Part'
 touched_items script word limit = foldr (λ x xs. insert_key item_cmp xs x) [] (map (item_of_touch (names_of script)) (touches_of script word limit))
 
 -- ---- names for parts of these definitions, which only the code and proofs use
 
-abbrev pub in_item_order : List Item' → List Item'
+abbrev pub in_item_order : List Part' → List Part'
 in_item_order xs = foldr (λ x ys. insert_key item_cmp ys x) [] xs
 
 -- the items of these touches, by name, in order and each once
-abbrev pub items_of : Names' → List Touch → List Item'
+abbrev pub items_of : Names' → List Touch → List Part'
 items_of names ts = in_item_order (map (item_of_touch names) ts)
 
 -- the items that the code's set holds
-abbrev pub items_in : BTreeSet Item → List Item'
+abbrev pub items_in : BTreeSet Item → List Part'
 items_in set = map item_of set.keys

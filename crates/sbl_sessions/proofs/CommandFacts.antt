@@ -8,7 +8,7 @@ use Rattle.std.specs.Option.{is_some, option_and_then, option_map, option_map_or
 use Rattle.std.specs.Str.{IsUtf8, bytes_eq, is_utf8}
 use Rattle.std.specs.declared.alloc.AllocError.{AllocError}
 use Rattle.std.specs.declared.alloc.Global.{Global}
-use Rattle.sbl_script.specs.Edits.{ScriptEdit}
+use Rattle.sbl_ast.specs.NamedParts.{Part'}
 use Rattle.sbl_script.specs.Parts.{view_part}
 use Rattle.sbl_script.specs.declared.part.Part.{Part}
 use Rattle.sbl_sessions.specs.CommandViews.{KeepsLine}
@@ -69,7 +69,7 @@ pub target_of_text : (line : List ℕ) → is_utf8 line ≡ true → option_and_
 target_of_text line text = rw text refl
 
 -- the part of a command word and an argument
-pub named_by : (part : Option Part) (word : Option (List ℕ → Option ScriptEdit)) (given : List ℕ)
+pub named_by : (part : Option Part) (word : Option (List ℕ → Option Part')) (given : List ℕ)
     → Some (option_map view_part part) ≡ option_map (λ names. names given) word → option_map view_part part ≡ option_and_then (λ names. names given) word
 named_by part None given same = absurd cc
 named_by part (Some names) given same = cc

@@ -8,7 +8,7 @@ use Rattle.sbl_bench.specs.Contents.{Contents}
 use Rattle.sbl_bench.specs.Edits.{Edit, Edits, Add, Replace, BeforeEdit, During, IsAccepted, IsMeterFull, IsOutOfMemory, IsRefused, IsVerdict, refusal_of_add}
 use Rattle.sbl_bench.specs.declared.fault.EditFault.{EditFault}
 use Rattle.sbl_bench.specs.declared.fault.EditFault.TheVariants as fault
-use Rattle.sbl_script.specs.Edits.{ScriptEdit}
+use Rattle.sbl_ast.specs.NamedParts.{Part'}
 use Rattle.sbl_text.specs.declared.fault.ScriptFault.{ScriptFault}
 use Rattle.sbl_text.specs.declared.fault.ScriptFault.TheVariants as script
 use Rattle.sbl_sessions.specs.Answers.{BlockRefused, Enough, RefusedAfter, edit_text, with_line_feed}
@@ -42,11 +42,11 @@ answer_of_edit (Err fault.NoGrouping) s t e h = (Enough, (Some fault.NoGrouping,
 answer_of_edit (Err fault.BrokenOff) s t e h = (Enough, (Some fault.BrokenOff, h, refl))
 
 -- a text that replaces something, by what is replaced and its bytes
-pub replaced_text : (r : Result (Unit {0}) EditFault) (s t : Contents) (named what : ScriptEdit) (text bytes answer : List ℕ) → named ≡ what → text ≡ bytes
+pub replaced_text : (r : Result (Unit {0}) EditFault) (s t : Contents) (named what : Part') (text bytes answer : List ℕ) → named ≡ what → text ≡ bytes
     → Edits r s (Replace named text) t → answer ≡ edit_text (fault_in r) → IsEditAnswer s (Replace what bytes) answer t
 replaced_text r s t named what text bytes answer is same h told =
     let a : IsEditAnswer s (Replace named text) (edit_text (fault_in r)) t = answer_of_edit r s t (Replace named text) h in
-    let b : IsEditAnswer s (Replace what text) (edit_text (fault_in r)) t = subst (λ (e : ScriptEdit). IsEditAnswer s (Replace e text) (edit_text (fault_in r)) t) is a in
+    let b : IsEditAnswer s (Replace what text) (edit_text (fault_in r)) t = subst (λ (e : Part'). IsEditAnswer s (Replace e text) (edit_text (fault_in r)) t) is a in
     let d : IsEditAnswer s (Replace what bytes) (edit_text (fault_in r)) t = subst (λ (x : List ℕ). IsEditAnswer s (Replace what x) (edit_text (fault_in r)) t) same b in
     subst (λ (x : List ℕ). IsEditAnswer s (Replace what bytes) x t) (sym told) d
 
@@ -123,28 +123,28 @@ text_long : (lines : List (List ℕ)) → max_script < length (made_text lines) 
 text_long lines long = let test : nat_lt max_script (length (made_text lines)) ≡ true = grind (arith, nat_tests) in rw test refl
 
 -- the command of what a line replaces, and the text of its block or why it has none
-abbrev with_text : ScriptEdit → Result (List ℕ) ScriptFault → Command
+abbrev with_text : Part' → Result (List ℕ) ScriptFault → Command
 with_text what r = elim r [ Ok text ↦ Makes (Replace what text) | Err f ↦ HasNoText f ]
 
 -- the command of what a line replaces and its block
-abbrev with_target : Option ScriptEdit → List (List ℕ) → Command
-with_target what lines = option_map_or (λ (w : ScriptEdit). with_text w (text_of_block lines)) what Bad
+abbrev with_target : Option Part' → List (List ℕ) → Command
+with_target what lines = option_map_or (λ (w : Part'). with_text w (text_of_block lines)) what Bad
 
 -- the line is bad, whatever its block is
 pub bad_line : (s : Contents) (line : List ℕ) (lines : List (List ℕ)) → None ≡ target_of line → IsTextAnswer s (block_command line lines) (with_line_feed (codes "no 52 BadCommand")) s
-bad_line s line lines none = subst (λ (c : Command). IsTextAnswer s c (with_line_feed (codes "no 52 BadCommand")) s) (ap (λ (t : Option ScriptEdit). with_target t lines) none) (Enough, (refl, refl))
+bad_line s line lines none = subst (λ (c : Command). IsTextAnswer s c (with_line_feed (codes "no 52 BadCommand")) s) (ap (λ (t : Option Part'). with_target t lines) none) (Enough, (refl, refl))
 
-command_is : (line : List ℕ) (lines : List (List ℕ)) (what : ScriptEdit) → Some what ≡ target_of line → block_command line lines ≡ with_text what (text_of_block lines)
-command_is line lines what is = ap (λ (t : Option ScriptEdit). with_target t lines) (sym is)
+command_is : (line : List ℕ) (lines : List (List ℕ)) (what : Part') → Some what ≡ target_of line → block_command line lines ≡ with_text what (text_of_block lines)
+command_is line lines what is = ap (λ (t : Option Part'). with_target t lines) (sym is)
 
 -- the block is too long
-pub block_too_long : (s : Contents) (line : List ℕ) (lines : List (List ℕ)) (what : ScriptEdit) → Some what ≡ target_of line → max_script < length (made_text lines)
+pub block_too_long : (s : Contents) (line : List ℕ) (lines : List (List ℕ)) (what : Part') → Some what ≡ target_of line → max_script < length (made_text lines)
     → IsTextAnswer s (block_command line lines) (edit_text (Some (fault.Script script.ScriptTooLong))) s
 block_too_long s line lines what is long =
     subst (λ (c : Command). IsTextAnswer s c (edit_text (Some (fault.Script script.ScriptTooLong))) s)
     (sym (command_is line lines what is ∙ ap (with_text what) (text_long lines long))) (Enough, (refl, refl))
 
-text_refused : (s : Contents) (what : ScriptEdit) (r : Result (List ℕ) ScriptFault) → IsTextAnswer s (with_text what r) (edit_text (Some fault.OutOfMemory)) s
+text_refused : (s : Contents) (what : Part') (r : Result (List ℕ) ScriptFault) → IsTextAnswer s (with_text what r) (edit_text (Some fault.OutOfMemory)) s
 text_refused s what (Ok text) = (BlockRefused, (Some fault.OutOfMemory, (refl, refl), refl))
 text_refused s what (Err f) = (BlockRefused, (refl, refl))
 
@@ -152,12 +152,12 @@ text_refused s what (Err f) = (BlockRefused, (refl, refl))
 pub name_refused : (s : Contents) (line : List ℕ) (lines : List (List ℕ)) → is_some (target_of line) ≡ true → IsTextAnswer s (block_command line lines) (edit_text (Some fault.OutOfMemory)) s
 name_refused s line lines some = by (target_of line) some
   where
-    by : (t : Option ScriptEdit) → is_some t ≡ true → IsTextAnswer s (with_target t lines) (edit_text (Some fault.OutOfMemory)) s
+    by : (t : Option Part') → is_some t ≡ true → IsTextAnswer s (with_target t lines) (edit_text (Some fault.OutOfMemory)) s
     by None e = let no : false ≡ true = e in absurd (cc no)
     by (Some what) e = text_refused s what (text_of_block lines)
 
 -- the block is held: it is a text, or it is not UTF-8
-pub block_held : (s t : Contents) (line bytes answer : List ℕ) (lines : List (List ℕ)) (what : ScriptEdit) → Some what ≡ target_of line
+pub block_held : (s t : Contents) (line bytes answer : List ℕ) (lines : List (List ℕ)) (what : Part') → Some what ≡ target_of line
     → HasText None bytes lines → (is_utf8 bytes ≡ true → IsEditAnswer s (Replace what bytes) answer t)
     → (is_utf8 bytes ≡ false → (answer ≡ edit_text (Some (fault.Script script.NotUtf8))) × (t ≡ s)) → IsTextAnswer s (block_command line lines) answer t
 block_held s t line bytes answer lines what target holds text bad = by (is_utf8 bytes) refl

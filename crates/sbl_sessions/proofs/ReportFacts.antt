@@ -13,7 +13,8 @@ use Rattle.sbl_rows.specs.Rows.{Row}
 use Rattle.sbl_bench.specs.Traces.{trace_of}
 use Rattle.sbl_bench.specs.Vocabulary.{is_word}
 use Rattle.sbl_bench.specs.declared.fault.EditFault.TheVariants as fault
-use Rattle.sbl_semantics.specs.TouchedItems.{Item', touched_items}
+use Rattle.sbl_semantics.specs.TouchedItems.{touched_items}
+use Rattle.sbl_ast.specs.NamedParts.{Part'}
 use Rattle.sbl_io.specs.Records.{records_text}
 use Rattle.sbl_sessions.specs.Answers.{Enough, IsReport, Memory, RefusedAfter, edit_text}
 use Rattle.sbl_sessions.specs.CommandViews.{IsReply}
@@ -103,12 +104,12 @@ class_text_is s word (Some row) is = ap (option_map (λ (r : Row). text_for_row 
 
 -- ---- the trace of a word
 
-pub trace_text_is : (s : Contents) (word : List ℕ) (items : Option (List Item')) → items ≡ trace_of s.setting s.words word → trace_text s word ≡ option_map items_text items
+pub trace_text_is : (s : Contents) (word : List ℕ) (items : Option (List Part')) → items ≡ trace_of s.setting s.words word → trace_text s word ≡ option_map items_text items
 unfolding trace_text
 trace_text_is s word items is = ap (option_map items_text) (sym is)
 
 -- its items, or want of memory for their text
-pub trace_answer : (s : Contents) (word : List ℕ) (items : List Item') (r : Result (Vec ℕ Global) AllocError) (reply : Reply) → Some items ≡ trace_of s.setting s.words word
+pub trace_answer : (s : Contents) (word : List ℕ) (items : List Part') (r : Result (Vec ℕ Global) AllocError) (reply : Reply) → Some items ≡ trace_of s.setting s.words word
     → IfOk r (λ text. text.items ≡ items_text items) → IfOk r (λ made. IsReply reply made.items) → OnErr r (IsReply reply (edit_text (Some fault.OutOfMemory)))
     → (memory : Memory) × (text : List ℕ) × IsReply reply text × IsReport s (trace_text s word) memory text s
 trace_answer s word items r reply is text made refused =

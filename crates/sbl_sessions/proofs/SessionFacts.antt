@@ -13,7 +13,7 @@ use Rattle.sbl_sessions.specs.CommandViews.{IsAnswer, IsReply, IsTextAnswer}
 use Rattle.sbl_sessions.specs.inside.RequestViews.{IsAnswered}
 use Rattle.sbl_sessions.specs.Commands.{block_command, command_of, line_command}
 use Rattle.sbl_io.specs.HeldInput.{AllFit, BeginsLong, BreaksOff, GivesLine, Took, TookWhole}
-use Rattle.sbl_script.specs.Edits.{ScriptEdit}
+use Rattle.sbl_ast.specs.NamedParts.{Part'}
 use Rattle.sbl_sessions.specs.Words.{command_word}
 use Rattle.sbl_sessions.specs.Requests.{Request, TookRequests, asks_block, lines_in_all}
 use Rattle.sbl_sessions.specs.inside.SessionParts.{IsBegun, IsRequest, block_lines, lines_in}

@@ -7,7 +7,7 @@ use Rattle.sbl_bench.specs.Contents.{Contents}
 use Rattle.sbl_bench.specs.Edits as edits
 use Rattle.sbl_reports.specs.Listings.{class_text, classes_text, stems_text, trace_text}
 use Rattle.sbl_print.specs.Canonical.{canonical}
-use Rattle.sbl_script.specs.Edits.{ScriptEdit}
+use Rattle.sbl_ast.specs.NamedParts.{Part'}
 use Rattle.sbl_text.specs.declared.fault.ScriptFault.{ScriptFault}
 use Rattle.sbl_text.specs.declared.fault.ScriptFault.TheVariants as fault
 use Rattle.sbl_reports.specs.Block.{made_text, max_script}
@@ -61,7 +61,7 @@ text_of_block lines =
     else (if is_utf8 (made_text lines) then Ok (made_text lines) else Err fault.NotUtf8)
 
 -- what a line replaces; a line that is not UTF-8 is bad
-abbrev pub target_of : List ℕ → Option ScriptEdit
+abbrev pub target_of : List ℕ → Option Part'
 target_of line = if is_utf8 line then option_and_then (λ target. target (argument line)) (block_word (command_word line)) else None
 
 -- a bad line comes before a fault of its block

@@ -6,7 +6,7 @@ use Rattle.std.specs.Str.{bytes_eq}
 use Rattle.sbl_reports.specs.Block.{BlockLines, NoPoint, point}
 use Rattle.sbl_io.specs.HeldInput.{AllFit, Took}
 use Rattle.sbl_io.specs.LinesOf.{max_line}
-use Rattle.sbl_script.specs.Edits.{ScriptEdit, among, body, terms}
+use Rattle.sbl_ast.specs.NamedParts.{Part', Among, Routine, Grouping}
 use Rattle.sbl_sessions.specs.Numbers.{number_in}
 use Rattle.sbl_sessions.specs.Words.{argument, command_word}
 
@@ -16,11 +16,11 @@ pub record Request : Type 0 where
 
 -- The command words that a block follows, each with what it replaces by its argument: the body of the routine of this name; an
 -- among, with a name, a space and a number as the argument; the terms of the grouping of this name; none if the argument is bad.
-abbrev pub block_word : List ℕ → Option (List ℕ → Option ScriptEdit)
+abbrev pub block_word : List ℕ → Option (List ℕ → Option Part')
 block_word word =
-    if bytes_eq word (codes "routine") then Some (λ name. Some (body name))
-    else (if bytes_eq word (codes "among") then Some (λ text. option_map (among (command_word text)) (number_in (argument text)))
-    else (if bytes_eq word (codes "grouping") then Some (λ name. Some (terms name)) else None))
+    if bytes_eq word (codes "routine") then Some (λ name. Some (Routine name))
+    else (if bytes_eq word (codes "among") then Some (λ text. option_map (Among (command_word text)) (number_in (argument text)))
+    else (if bytes_eq word (codes "grouping") then Some (λ name. Some (Grouping name)) else None))
 
 -- whether a block follows the line, whatever else the line contains
 abbrev pub asks_block : List ℕ → Bool

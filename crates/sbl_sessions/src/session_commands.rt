@@ -2,7 +2,7 @@
 ghost use Rattle.std.specs.Prelude.{◌≡◌};
 ghost use Rattle.std.specs.Option.{option_map, unwrap_or};
 ghost use Rattle.sbl_bench.specs.Edits as edits;
-ghost use Rattle.sbl_script.specs.Edits.{among};
+ghost use Rattle.sbl_ast.specs.NamedParts.{Among as among};
 ghost use Rattle.sbl_script.specs.Parts.{view_part};
 ghost use Rattle.sbl_sessions.specs.Commands as spec;
 ghost use Rattle.sbl_sessions.specs.Requests as requests;

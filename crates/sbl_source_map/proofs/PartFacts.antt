@@ -12,7 +12,7 @@ use Rattle.sbl_text.specs.Literals.{byte_length}
 use Rattle.sbl_text.specs.Tokens.{AreCut, ArePlaced, Piece, PlacedToken, placed_from, placed_of}
 use Rattle.sbl_text.specs.inside.TokenParts.{after_piece, put_placed}
 use Rattle.sbl_text.proofs.Lists.{bytes_append}
-use Rattle.sbl_script.specs.Edits.{ScriptEdit, among, body, terms}
+use Rattle.sbl_ast.specs.NamedParts.{Part', Among as among, Routine as body, Grouping as terms}
 use Rattle.sbl_source_map.specs.SubjectTokens.{is_among}
 use Rattle.sbl_source_map.specs.declared.parts.Excerpt.{Excerpt}
 use Rattle.sbl_source_map.specs.PartTokens.{IsCutAtPart, IsCutAtRange, after_first_head, after_head, closes, definition_tokens, depth_after, ends_item, from_among, is_as, is_define, last_end, part_tokens, range_of, until_closed, until_end}
@@ -135,7 +135,7 @@ then_in_order : (f : List PlacedToken → Option (List PlacedToken)) (n : ℕ) (
 then_in_order f n None end k h = tt
 then_in_order f n (Some ts) end k h = k ts h
 
-pub part_in_order : (what : ScriptEdit) (n : ℕ) (ts : List PlacedToken) (end : ℕ) → InOrder n ts end → MayBeInOrder n (part_tokens what ts) end
+pub part_in_order : (what : Part') (n : ℕ) (ts : List PlacedToken) (end : ℕ) → InOrder n ts end → MayBeInOrder n (part_tokens what ts) end
 part_in_order (body name) n ts end h = definition_in_order true name n ts end h
 part_in_order (among name k) n ts end h =
     then_in_order (λ us. option_map (until_closed 0) (from_among k us)) n (definition_tokens true name ts) end
@@ -192,15 +192,15 @@ range_in_order (u ∷ ts) t end h e =
 
 -- ---- the text cut at a part
 
-pub part_found_in_order : (what : ScriptEdit) (text : List ℕ) (ts found : List PlacedToken) → IsUtf8 text → ArePlaced (chars text) ts → Some found ≡ part_tokens what ts → InOrder 0 found (length text)
+pub part_found_in_order : (what : Part') (text : List ℕ) (ts found : List PlacedToken) → IsUtf8 text → ArePlaced (chars text) ts → Some found ≡ part_tokens what ts → InOrder 0 found (length text)
 part_found_in_order what text ts found utf8 placed e =
     subst (λ (o : Option (List PlacedToken)). MayBeInOrder 0 o (length text)) (sym e) (part_in_order what 0 ts (length text) (text_in_order text ts utf8 placed))
 
-pub cut_at_found : (what : ScriptEdit) (text : List ℕ) (ts found : List PlacedToken) (cut : Option Excerpt) → ArePlaced (chars text) ts → Some found ≡ part_tokens what ts
+pub cut_at_found : (what : Part') (text : List ℕ) (ts found : List PlacedToken) (cut : Option Excerpt) → ArePlaced (chars text) ts → Some found ≡ part_tokens what ts
     → IsCutAtRange text (range_of found) cut → IsCutAtPart what text cut
 cut_at_found what text ts found cut placed e h = inl (ts, placed, subst (λ (o : Option (List PlacedToken)). IsCutAtRange text (option_and_then range_of o) cut) e h)
 
-pub not_cut : (what : ScriptEdit) (text : List ℕ) (ts : List PlacedToken) → ArePlaced (chars text) ts → None ≡ part_tokens what ts → IsCutAtPart what text None
+pub not_cut : (what : Part') (text : List ℕ) (ts : List PlacedToken) → ArePlaced (chars text) ts → None ≡ part_tokens what ts → IsCutAtPart what text None
 not_cut what text ts placed e = inl (ts, placed, subst (λ (o : Option (List PlacedToken)). IsCutAtRange text (option_and_then range_of o) None) e refl)
 
 -- ---- one token after another

@@ -2,16 +2,16 @@
 use Rattle.std.specs.Prelude.{◌≡◌, ◌⊎◌, ℕ, List, [], ◌∷◌, codes, encode_utf8_all, Option, Some, None, Ok}
 use Rattle.std.specs.Str.{chars}
 use Rattle.sbl_token.specs.declared.token.Token.{Token}
-use Rattle.sbl_script.specs.Edits.{ScriptEdit, among, body, terms}
+use Rattle.sbl_ast.specs.NamedParts.{Part', Among, Routine, Grouping}
 use Rattle.sbl_text.specs.Directives.{Directives, start}
 use Rattle.sbl_text.specs.Tokens.{Advances, Stops}
 use Rattle.sbl_text.specs.declared.fault.ScriptFault.{ScriptFault}
 
 -- the words that a definition begins with; an among has none
-abbrev pub head_of : ScriptEdit → Option (List (List ℕ))
-head_of (body name) = Some (codes "define" ∷ name ∷ codes "as" ∷ [])
-head_of (terms name) = Some (codes "define" ∷ name ∷ [])
-head_of (among name k) = None
+abbrev pub head_of : Part' → Option (List (List ℕ))
+head_of (Routine name) = Some (codes "define" ∷ name ∷ codes "as" ∷ [])
+head_of (Grouping name) = Some (codes "define" ∷ name ∷ [])
+head_of (Among name k) = None
 
 -- the next token of a text, and the state and the text after it; none at the end of the text, or at a fault of it
 abbrev pub IsNextToken : List ℕ → Directives → List ℕ → Directives → List ℕ → Option Token → Type 0
@@ -42,5 +42,5 @@ IsWithout (Some words) text rest = (after : Option (List ℕ)) × Follows (chars
 
 -- A text for a part of a script, without the beginning of a definition: `define NAME as` of a routine, `define NAME` of a
 -- grouping.
-abbrev pub IsWithoutHead : ScriptEdit → List ℕ → List ℕ → Type 0
+abbrev pub IsWithoutHead : Part' → List ℕ → List ℕ → Type 0
 IsWithoutHead what text rest = IsWithout (head_of what) text rest

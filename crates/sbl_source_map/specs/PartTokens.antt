@@ -8,7 +8,7 @@ use Rattle.sbl_token.specs.declared.words.Word.TheVariants as words
 use Rattle.sbl_token.specs.declared.signs.Sign.TheVariants as signs
 use Rattle.sbl_token.specs.Lexemes.{Lexeme, word, sign}
 use Rattle.sbl_text.specs.Tokens.{PlacedToken, ArePlaced}
-use Rattle.sbl_script.specs.Edits.{ScriptEdit, among, body, terms}
+use Rattle.sbl_ast.specs.NamedParts.{Part', Among, Routine, Grouping}
 use Rattle.sbl_source_map.specs.ItemWords.{begins_item}
 use Rattle.sbl_source_map.specs.SubjectTokens.{is_among}
 use Rattle.sbl_source_map.specs.declared.parts.Excerpt.{Excerpt}
@@ -67,10 +67,10 @@ until_closed depth [] = []
 until_closed depth (t ∷ ts) = t ∷ (if closes t.lexeme && nat_le depth 1 then [] else until_closed (depth_after t.lexeme depth) ts)
 
 -- the tokens of a part: of a body, of the k-th among of a body, or of a grouping's terms
-abbrev pub part_tokens : ScriptEdit → List PlacedToken → Option (List PlacedToken)
-part_tokens (body name) ts = definition_tokens true name ts
-part_tokens (among name k) ts = option_and_then (λ ds. option_map (until_closed 0) (from_among k ds)) (definition_tokens true name ts)
-part_tokens (terms name) ts = definition_tokens false name ts
+abbrev pub part_tokens : Part' → List PlacedToken → Option (List PlacedToken)
+part_tokens (Routine name) ts = definition_tokens true name ts
+part_tokens (Among name k) ts = option_and_then (λ ds. option_map (until_closed 0) (from_among k ds)) (definition_tokens true name ts)
+part_tokens (Grouping name) ts = definition_tokens false name ts
 
 -- ---- the text
 
@@ -83,7 +83,7 @@ abbrev pub range_of : List PlacedToken → Option (ℕ × ℕ)
 range_of [] = None
 range_of (t ∷ ts) = Some (t.start, last_end t ts)
 
-abbrev pub range_of_part : ScriptEdit → List PlacedToken → Option (ℕ × ℕ)
+abbrev pub range_of_part : Part' → List PlacedToken → Option (ℕ × ℕ)
 range_of_part what ts = option_and_then range_of (part_tokens what ts)
 
 -- the text in three pieces, cut at these two bytes
@@ -98,7 +98,7 @@ IsCutAtRange text None cut = cut ≡ None
 IsCutAtRange text (Some r) cut = (c : Excerpt) × (cut ≡ Some c) × IsCutAt text r.0 r.1 c
 
 -- the text cut at a part of its tokens; none if it has no tokens, or if these have no such part
-abbrev pub IsCutAtPart : ScriptEdit → List ℕ → Option Excerpt → Type 0
+abbrev pub IsCutAtPart : Part' → List ℕ → Option Excerpt → Type 0
 IsCutAtPart what text cut =
     ((ts : List PlacedToken) × ArePlaced (chars text) ts × IsCutAtRange text (range_of_part what ts) cut)
     ⊎ (((ts : List PlacedToken) → ArePlaced (chars text) ts → ⊥) × (cut ≡ None))

@@ -3,7 +3,8 @@
 ghost use Rattle.std.specs.Prelude.{◌≡◌, ◌∷◌, ◌++◌, List, [], if◌then◌else◌, IfOk, Option, map, string_bytes};
 ghost use Rattle.sbl_ast.specs.View.{view_item, view_plain};
 ghost use Rattle.sbl_semantics.specs.DiffersByParts as parts;
-ghost use Rattle.sbl_semantics.specs.TouchedItems.{Among, Grouping, Item', item_of};
+ghost use Rattle.sbl_semantics.specs.TouchedItems.{item_of};
+ghost use Rattle.sbl_ast.specs.NamedParts.{Among, Grouping, Part'};
 ghost use Rattle.sbl_tree_diff.specs.ItemsIn.{items_in};
 ghost use Rattle.sbl_tree_diff.specs.WalkViews.{numbers_of};
 
@@ -115,7 +116,7 @@ fn differ_plain(alloc: Global, one: &Plain, other: &Plain) -> Result<Option<Vec<
 /// An item of a script, or of a `backwardmode`.
 trait Differ: Sized {
     /// The items in which two of them differ.
-    ghost differs: { Self → Self → Option (List Item') };
+    ghost differs: { Self → Self → Option (List Part') };
 
     /// Returns the items in which two of them differ, and `None` if more differs than bodies of routines and terms of
     /// groupings.

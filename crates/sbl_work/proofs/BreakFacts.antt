@@ -19,7 +19,7 @@ use Rattle.sbl_history.specs.declared.history.HistoryFault.TheVariants as turn
 use Rattle.sbl_input.specs.FileWords.{file_words}
 use Rattle.sbl_input.specs.declared.faults.LoadFault.TheVariants as load
 use Rattle.sbl_io.specs.declared.faults.ServeFault.TheVariants as serve
-use Rattle.sbl_script.specs.Edits.{ScriptEdit}
+use Rattle.sbl_ast.specs.NamedParts.{Part'}
 use Rattle.sbl_explain.specs.Counts.{counts_text}
 use Rattle.sbl_explain.specs.Unused.{unused_text}
 use Rattle.sbl_reports.specs.Block.{max_script}
@@ -91,7 +91,7 @@ module _ (s : Contents) (d : State) (text : List ℕ) (t : Contents) (e : State)
   replacing_keeps (Ok u) kind what after m (edits, noted) = noted.rest.2
   replacing_keeps (Err f) kind what after m (edits, desk) = same d m desk
 
-  part_replacing_keeps : (result : Result (Unit {0}) EditFault) (what : ScriptEdit) (block : List ℕ) (m : State) → ReplacesPart result what block s d t m → Keeps d m
+  part_replacing_keeps : (result : Result (Unit {0}) EditFault) (what : Part') (block : List ℕ) (m : State) → ReplacesPart result what block s d t m → Keeps d m
   part_replacing_keeps result what block m (inl (after, is, replaces)) = replacing_keeps result (OfPart what) (Replace what block) after m replaces
   part_replacing_keeps result what block m (inr (refused, bench, desk)) = same d m desk
 
@@ -128,7 +128,7 @@ module _ (s : Contents) (d : State) (text : List ℕ) (t : Contents) (e : State)
   whole bytes (result, (m, replaces, desk), shown) =
       ap (λ (x : State). x.may_break) desk ∙ kept_keeps result (refused_whole bytes) m ∙ replacing_keeps result OfScript (Whole bytes) (Some bytes) m replaces
 
-  part : (what : ScriptEdit) (block : List ℕ) → IsPartReply what block s d text t e → Keeps d e
+  part : (what : Part') (block : List ℕ) → IsPartReply what block s d text t e → Keeps d e
   part what block (rest, result, m, head, replaces, desk, shown) =
       ap (λ (x : State). x.may_break) desk ∙ kept_keeps result (refused_part what block) m ∙ part_replacing_keeps result what rest m replaces
 

@@ -9,7 +9,7 @@ use Rattle.sbl_bench.specs.Contents.{Contents}
 use Rattle.sbl_bench.specs.declared.fault.EditFault.TheVariants as edit
 use Rattle.sbl_history.specs.Desks.{State}
 use Rattle.sbl_history.specs.Refused.{RefusedText}
-use Rattle.sbl_script.specs.Edits.{ScriptEdit}
+use Rattle.sbl_ast.specs.NamedParts.{Part'}
 use Rattle.sbl_sessions.specs.Answers.{edit_text}
 use Rattle.sbl_sessions.specs.CommandViews.{IsReply}
 use Rattle.sbl_sessions.specs.declared.replies.Reply.{Reply}
@@ -43,17 +43,17 @@ pub faults_memory : (s : Contents) (d : State) (r : Reply) → IsReply r (edit_t
 faults_memory s d r shown = (Some [], (edit_text (Some edit.OutOfMemory), shown, inr (refl, refl, refl)))
 
 -- what is typed is a text, or bytes that are none
-pub typed_text : (s : Contents) (what : ScriptEdit) (text typed : List ℕ) (f : ScriptFault) (faults : List PlacedFault) → text ≡ typed → IsUtf8 typed
+pub typed_text : (s : Contents) (what : Part') (text typed : List ℕ) (f : ScriptFault) (faults : List PlacedFault) → text ≡ typed → IsUtf8 typed
     → AreTypedFaults s what text f faults → ArePartFaults s what typed f faults
 typed_text s what text typed f faults same utf8 h =
     rw (is_utf8-from_IsUtf8 typed utf8) (subst (λ (b : List ℕ). AreTypedFaults s what b f faults) same h)
 
-pub typed_bytes : (s : Contents) (what : ScriptEdit) (typed : List ℕ) (f : ScriptFault) (faults : List PlacedFault) → ¬ (IsUtf8 typed)
+pub typed_bytes : (s : Contents) (what : Part') (typed : List ℕ) (f : ScriptFault) (faults : List PlacedFault) → ¬ (IsUtf8 typed)
     → AreFaultsOf typed s.setting.script.external faults → ArePartFaults s what typed f faults
 typed_bytes s what typed f faults not h = rw (no_utf8 typed not) h
 
 -- the script is cut at the part, or has no such part
-pub typed_cut : (s : Contents) (what : ScriptEdit) (typed rest text external block : List ℕ) (f : ScriptFault) (o : Option Excerpt) (cut : Excerpt) (head : ℕ) (all faults : List PlacedFault)
+pub typed_cut : (s : Contents) (what : Part') (typed rest text external block : List ℕ) (f : ScriptFault) (o : Option Excerpt) (cut : Excerpt) (head : ℕ) (all faults : List PlacedFault)
     → IsWithoutHead what typed rest → IsCutAtPart what text o → o ≡ Some cut → text ≡ canonical s.setting.script.items → external ≡ s.setting.script.external
     → head ≡ length typed - length rest → block ≡ rest → AreBlockFaults cut.before.now head block cut.after.now external f all → faults ≡ or_alone f all → AreTypedFaults s what typed f faults
 typed_cut s what typed rest text external block f o cut head all faults without cuts is same of_script ahead blocks are found = (
@@ -70,7 +70,7 @@ typed_cut s what typed rest text external block f o cut head all faults without 
   ),
 )
 
-pub typed_uncut : (s : Contents) (what : ScriptEdit) (typed rest text : List ℕ) (f : ScriptFault) (o : Option Excerpt) (faults : List PlacedFault) → IsWithoutHead what typed rest → IsCutAtPart what text o
+pub typed_uncut : (s : Contents) (what : Part') (typed rest text : List ℕ) (f : ScriptFault) (o : Option Excerpt) (faults : List PlacedFault) → IsWithoutHead what typed rest → IsCutAtPart what text o
     → o ≡ None → text ≡ canonical s.setting.script.items → faults ≡ alone f → AreTypedFaults s what typed f faults
 typed_uncut s what typed rest text f o faults without cuts is same found = (
   rest,

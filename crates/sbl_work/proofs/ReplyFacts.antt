@@ -10,7 +10,7 @@ use Rattle.sbl_bench.specs.Contents.{Contents}
 use Rattle.sbl_bench.specs.Edits.{Edit, Edits, Whole}
 use Rattle.sbl_bench.specs.declared.fault.EditFault.{EditFault}
 use Rattle.sbl_bench.specs.declared.fault.EditFault.TheVariants as fault
-use Rattle.sbl_script.specs.Edits.{ScriptEdit}
+use Rattle.sbl_ast.specs.NamedParts.{Part'}
 use Rattle.sbl_sessions.specs.Answers.{BlockRefused, Enough, edit_text, with_line_feed}
 use Rattle.sbl_reports.specs.Block.{made_text, max_script}
 use Rattle.sbl_sessions.specs.CommandViews.{IsAnswerOrBreak, IsReply, IsTextAnswer}
@@ -141,7 +141,7 @@ text_long lines long = let test : nat_lt max_script (length (made_text lines)) �
 -- ---- a part of a script
 
 -- an allocation fails
-part_memory : (s : Contents) (d : State) (what : ScriptEdit) (bytes : List ℕ) (text : Result (List ℕ) ScriptFault) → IsWorkReply s d (part_command (Some what) bytes text) (edit_text (Some fault.OutOfMemory)) s d
+part_memory : (s : Contents) (d : State) (what : Part') (bytes : List ℕ) (text : Result (List ℕ) ScriptFault) → IsWorkReply s d (part_command (Some what) bytes text) (edit_text (Some fault.OutOfMemory)) s d
 part_memory s d what bytes (Ok text) = inr (refl, refl, refl)
 part_memory s d what bytes (Err f) = inr (refl, refl, refl)
 
@@ -149,7 +149,7 @@ part_memory s d what bytes (Err f) = inr (refl, refl, refl)
 pub part_bad : (s : Contents) (d : State) (line : List ℕ) (lines : List (List ℕ)) (r : Reply) → target_of line ≡ None → IsReply r (with_line_feed (codes "no 52 BadCommand"))
     → IsWorkAnswer s d (part_command (target_of line) (made_text lines) (text_of_block lines)) r s d
 part_bad s d line lines r none shown =
-    same_command s s d d (part_command None (made_text lines) (text_of_block lines)) (part_command (target_of line) (made_text lines) (text_of_block lines)) r (ap (λ (o : Option ScriptEdit). part_command o (made_text lines) (text_of_block lines)) (sym none))
+    same_command s s d d (part_command None (made_text lines) (text_of_block lines)) (part_command (target_of line) (made_text lines) (text_of_block lines)) r (ap (λ (o : Option Part'). part_command o (made_text lines) (text_of_block lines)) (sym none))
     (with_line_feed (codes "no 52 BadCommand"), shown, (session_reply d.may_break session.Bad s s (with_line_feed (codes "no 52 BadCommand")) (Enough, (refl, refl)), inl (refl, refl)))
 
 -- an allocation for the line failed
@@ -157,19 +157,19 @@ pub part_unkept : (s : Contents) (d : State) (line : List ℕ) (lines : List (Li
     → IsWorkAnswer s d (part_command (target_of line) (made_text lines) (text_of_block lines)) r s d
 part_unkept s d line lines r some shown = by (target_of line) some
   where
-    by : (o : Option ScriptEdit) → is_some o ≡ true → IsWorkAnswer s d (part_command o (made_text lines) (text_of_block lines)) r s d
+    by : (o : Option Part') → is_some o ≡ true → IsWorkAnswer s d (part_command o (made_text lines) (text_of_block lines)) r s d
     by None e = let no : false ≡ true = e in absurd (cc no)
     by (Some what) e = (edit_text (Some fault.OutOfMemory), shown, part_memory s d what (made_text lines) (text_of_block lines))
 
 -- what is kept of bytes that are too long, and of others
-kept_long : (what : ScriptEdit) (bytes : List ℕ) (f : ScriptFault) → max_script < length bytes → refused_part what bytes f ≡ LongText
+kept_long : (what : Part') (bytes : List ℕ) (f : ScriptFault) → max_script < length bytes → refused_part what bytes f ≡ LongText
 kept_long what bytes f long = let test : nat_lt max_script (length bytes) ≡ true = grind (arith, nat_tests) in rw test refl
 
-kept_short : (what : ScriptEdit) (bytes : List ℕ) (f : ScriptFault) → length bytes ≤ max_script → refused_part what bytes f ≡ PartText what bytes f
+kept_short : (what : Part') (bytes : List ℕ) (f : ScriptFault) → length bytes ≤ max_script → refused_part what bytes f ≡ PartText what bytes f
 kept_short what bytes f few = let test : nat_lt max_script (length bytes) ≡ false = grind (arith, nat_tests) in rw test refl
 
 -- the block has no text
-pub part_refused : (s : Contents) (d e : State) (what : ScriptEdit) (lines : List (List ℕ)) (f : EditFault) (r : Reply) → NamesText (Err f) (made_text lines)
+pub part_refused : (s : Contents) (d e : State) (what : Part') (lines : List (List ℕ)) (f : EditFault) (r : Reply) → NamesText (Err f) (made_text lines)
     → e ≡ kept_after (Err f) (λ g. LongText) d → IsReply r (edit_text (Some f)) → IsWorkAnswer s d (part_command (Some what) (made_text lines) (text_of_block lines)) r s e
 part_refused s d e what lines f r (inl long) is shown =
     let text : IsReply r (edit_text (Some (fault.Script script.ScriptTooLong))) = subst (λ (g : EditFault). IsReply r (edit_text (Some g))) long.0 shown in
@@ -187,7 +187,7 @@ part_refused s d e what lines f r (inr memory) is shown =
     (edit_text (Some fault.OutOfMemory), text, part_memory s d what (made_text lines) (text_of_block lines))
 
 -- what is kept after an edit by bytes that are short enough
-kept_result : (what : ScriptEdit) (bytes : List ℕ) (d : State) (result : Result (Unit {0}) EditFault) → length bytes ≤ max_script
+kept_result : (what : Part') (bytes : List ℕ) (d : State) (result : Result (Unit {0}) EditFault) → length bytes ≤ max_script
     → kept_after result (PartText what bytes) d ≡ kept_after result (refused_part what bytes) d
 kept_result what bytes d result few =
     let test : nat_lt max_script (length bytes) ≡ false = grind (arith, nat_tests) in
@@ -196,7 +196,7 @@ kept_result what bytes d result few =
     let same : PartText what bytes ≡ refused_part what bytes = subst P (sym test) base in
     ap (λ (m : ScriptFault → RefusedText). kept_after result m d) same
 
-part_text : (s t : Contents) (d m e : State) (what : ScriptEdit) (bytes : List ℕ) (result : Result (Unit {0}) EditFault) → length bytes ≤ max_script → IsTextResult result what bytes s d t m
+part_text : (s t : Contents) (d m e : State) (what : Part') (bytes : List ℕ) (result : Result (Unit {0}) EditFault) → length bytes ≤ max_script → IsTextResult result what bytes s d t m
     → e ≡ kept_after result (PartText what bytes) m → IsWorkReply s d (part_command (Some what) bytes (Ok bytes)) (edit_text (fault_in result)) t e
 part_text s t d m e what bytes result few (inl so) is = inl (so.0, result, m, so.1, so.2, is ∙ kept_result what bytes m result few, refl)
 part_text s t d m e what bytes result few (inr memory) is =
@@ -204,7 +204,7 @@ part_text s t d m e what bytes result few (inr memory) is =
     inr (ap (λ (x : Result (Unit {0}) EditFault). edit_text (fault_in x)) memory.0, memory.1, kept ∙ memory.2)
 
 -- the block has a text, or bytes that are none
-pub part_held : (s t : Contents) (d m e : State) (what : ScriptEdit) (bytes : List ℕ) (lines : List (List ℕ)) (result : Result (Unit {0}) EditFault) (r : Reply)
+pub part_held : (s t : Contents) (d m e : State) (what : Part') (bytes : List ℕ) (lines : List (List ℕ)) (result : Result (Unit {0}) EditFault) (r : Reply)
     → bytes ≡ made_text lines → length (made_text lines) ≤ max_script → IsPartResult result what bytes s d t m → e ≡ kept_after result (PartText what bytes) m → IsReply r (edit_text (fault_in result))
     → IsWorkAnswer s d (part_command (Some what) (made_text lines) (text_of_block lines)) r t e
 part_held s t d m e what bytes lines result r same few so kept shown =
@@ -234,7 +234,7 @@ part_held s t d m e what bytes lines result r same few so kept shown =
         )
 
 -- no memory for what is kept
-pub part_kept : (s t : Contents) (d e : State) (what : ScriptEdit) (bytes : List ℕ) (lines : List (List ℕ)) (result : Result (Unit {0}) EditFault) (r : Reply)
+pub part_kept : (s t : Contents) (d e : State) (what : Part') (bytes : List ℕ) (lines : List (List ℕ)) (result : Result (Unit {0}) EditFault) (r : Reply)
     → bytes ≡ made_text lines → length (made_text lines) ≤ max_script → IsKeptPart result what bytes s d t e → IsReply r (edit_text (fault_in result))
     → IsWorkAnswer s d (part_command (Some what) (made_text lines) (text_of_block lines)) r t e
 part_kept s t d e what bytes lines result r same few (inl so) shown = part_held s t d so.0 e what bytes lines result r same few so.1 so.2 shown
@@ -278,10 +278,10 @@ whole_noted s t d m e bytes result noted x so same kept is =
 
 -- ---- the bytes of a part
 
-pub part_bytes : (s : Contents) (d : State) (what : ScriptEdit) (bytes : List ℕ) → ¬ (IsUtf8 bytes) → IsPartResult (Err (fault.Script script.NotUtf8)) what bytes s d s d
+pub part_bytes : (s : Contents) (d : State) (what : Part') (bytes : List ℕ) → ¬ (IsUtf8 bytes) → IsPartResult (Err (fault.Script script.NotUtf8)) what bytes s d s d
 part_bytes s d what bytes not = rw (no_utf8 bytes not) (refl, refl, refl)
 
-pub part_utf8 : (s t : Contents) (d e : State) (what : ScriptEdit) (text bytes : List ℕ) (result : Result (Unit {0}) EditFault) → text ≡ bytes → IsUtf8 bytes
+pub part_utf8 : (s t : Contents) (d e : State) (what : Part') (text bytes : List ℕ) (result : Result (Unit {0}) EditFault) → text ≡ bytes → IsUtf8 bytes
     → IsTextResult result what text s d t e → IsPartResult result what bytes s d t e
 part_utf8 s t d e what text bytes result same utf8 so = rw (is_utf8-from_IsUtf8 bytes utf8) (subst (λ (b : List ℕ). IsTextResult result what b s d t e) same so)
 

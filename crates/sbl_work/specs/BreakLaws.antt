@@ -14,7 +14,7 @@ use Rattle.sbl_io.specs.Devices.{Tally}
 use Rattle.sbl_io.specs.HeldInput.{input_of}
 use Rattle.sbl_io.specs.declared.faults.ServeFault.{ServeFault}
 use Rattle.sbl_io.specs.declared.lines.Lines.{Lines}
-use Rattle.sbl_script.specs.Edits.{ScriptEdit}
+use Rattle.sbl_ast.specs.NamedParts.{Part'}
 use Rattle.sbl_sessions.specs.Answers.{edit_text}
 use Rattle.sbl_sessions.specs.CommandViews.{IsTextAnswer}
 use Rattle.sbl_sessions.specs.Commands.{Command}
@@ -43,7 +43,7 @@ WholeScriptsAreEdited =
     → (result : Result (Unit {0}) EditFault) × Edits result s (Whole bytes) t × (text ≡ edit_text (fault_in result))
 
 -- the bench replaces a part by the block without its head
-abbrev pub IsPartEdited : ScriptEdit → List ℕ → Contents → List ℕ → Contents → Type 0
+abbrev pub IsPartEdited : Part' → List ℕ → Contents → List ℕ → Contents → Type 0
 IsPartEdited what block s text t =
     (rest : List ℕ) × (result : Result (Unit {0}) EditFault) × IsWithoutHead what block rest × Edits result s (Replace what rest) t
     × (text ≡ edit_text (fault_in result))
@@ -51,7 +51,7 @@ IsPartEdited what block s text t =
 -- a part is replaced as the bench replaces it; or an allocation fails, and nothing is changed
 abbrev pub PartsAreEdited : Type 0
 PartsAreEdited =
-    (what : ScriptEdit) (block : List ℕ) (s : Contents) (d : State) (text : List ℕ) (t : Contents) (e : State) → d.may_break ≡ false
+    (what : Part') (block : List ℕ) (s : Contents) (d : State) (text : List ℕ) (t : Contents) (e : State) → d.may_break ≡ false
     → IsWorkReply s d (EditPart what block) text t e
     → IsPartEdited what block s text t ⊎ ((text ≡ edit_text (Some edit.OutOfMemory)) × (t ≡ s))
 

@@ -5,7 +5,7 @@ use Rattle.std.specs.Option.{is_some, option_and_then, option_map_or}
 use Rattle.std.specs.Str.{bytes_eq, chars, is_utf8}
 use Rattle.sbl_explain.specs.Uses.{Question}
 use Rattle.sbl_io.specs.LinesOf.{lines_of}
-use Rattle.sbl_script.specs.Edits.{ScriptEdit}
+use Rattle.sbl_ast.specs.NamedParts.{Part'}
 use Rattle.sbl_reports.specs.Block.{made_text, max_script}
 use Rattle.sbl_sessions.specs.Commands as session
 use Rattle.sbl_sessions.specs.Numbers.{number_in}
@@ -21,9 +21,9 @@ pub data WorkCommand : Type 0 where
   -- a command of a session
   Session : session.Command → WorkCommand
   -- a text replaces a part of the script
-  EditPart : ScriptEdit → List ℕ → WorkCommand
+  EditPart : Part' → List ℕ → WorkCommand
   -- bytes for a part of the script that are no text, with their fault
-  NoPart : ScriptEdit → List ℕ → ScriptFault → WorkCommand
+  NoPart : Part' → List ℕ → ScriptFault → WorkCommand
   -- these bytes replace the whole script
   EditWhole : List ℕ → WorkCommand
   -- takes back the last edit that undo can take back: one of the script, or a limit
@@ -212,7 +212,7 @@ abbrev pub asks_work_block : List ℕ → Bool
 asks_work_block line = asks_block line || (is_replace line || bytes_eq line (codes "families"))
 
 -- A line that is bad comes before a fault of its block.
-abbrev pub part_command : Option ScriptEdit → List ℕ → Result (List ℕ) ScriptFault → WorkCommand
+abbrev pub part_command : Option Part' → List ℕ → Result (List ℕ) ScriptFault → WorkCommand
 part_command None bytes text = Session session.Bad
 part_command (Some what) bytes (Ok text) = EditPart what text
 part_command (Some what) bytes (Err f) = NoPart what bytes f

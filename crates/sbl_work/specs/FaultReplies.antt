@@ -11,7 +11,7 @@ use Rattle.sbl_history.specs.Refused.{RefusedText, WholeText, PartText, LongText
 use Rattle.sbl_history.specs.declared.history.HistoryFault.{HistoryFault}
 use Rattle.sbl_print.specs.Canonical.{canonical}
 use Rattle.sbl_reports.specs.Block.{max_script}
-use Rattle.sbl_script.specs.Edits.{ScriptEdit}
+use Rattle.sbl_ast.specs.NamedParts.{Part'}
 use Rattle.sbl_source_map.specs.BlockFaults.{AreBlockFaults}
 use Rattle.sbl_source_map.specs.FaultLists.{AreFaultsOf}
 use Rattle.sbl_source_map.specs.FaultNumbers.{number_of}
@@ -58,20 +58,20 @@ AreCutFaults (Some c) head block external f faults =
 
 -- All faults of a text that is typed for a part of a script: those of the text without the beginning of a definition, put into the
 -- canonical text of the script.
-abbrev pub AreTypedFaults : Contents → ScriptEdit → List ℕ → ScriptFault → List PlacedFault → Type 0
+abbrev pub AreTypedFaults : Contents → Part' → List ℕ → ScriptFault → List PlacedFault → Type 0
 AreTypedFaults s what typed f faults =
     (rest : List ℕ) × (cut : Option Excerpt) × IsWithoutHead what typed rest × IsCutAtPart what (canonical s.setting.script.items) cut
     × AreCutFaults cut (length typed - length rest) rest s.setting.script.external f faults
 
 -- the same for bytes; if they are no text, their one fault
-abbrev pub AreBytesFaults : Bool → Contents → ScriptEdit → List ℕ → ScriptFault → List PlacedFault → Type 0
+abbrev pub AreBytesFaults : Bool → Contents → Part' → List ℕ → ScriptFault → List PlacedFault → Type 0
 AreBytesFaults true s what typed f faults = AreTypedFaults s what typed f faults
 AreBytesFaults false s what typed f faults = AreFaultsOf typed s.setting.script.external faults
 
-abbrev pub ArePartFaults : Contents → ScriptEdit → List ℕ → ScriptFault → List PlacedFault → Type 0
+abbrev pub ArePartFaults : Contents → Part' → List ℕ → ScriptFault → List PlacedFault → Type 0
 ArePartFaults s what typed f faults = AreBytesFaults (is_utf8 typed) s what typed f faults
 
-abbrev pub IsPartText : Contents → ScriptEdit → List ℕ → ScriptFault → List ℕ → Type 0
+abbrev pub IsPartText : Contents → Part' → List ℕ → ScriptFault → List ℕ → Type 0
 IsPartText s what typed f report = (faults : List PlacedFault) × ArePartFaults s what typed f faults × AreRowsOf typed faults report
 
 -- ---- the text that was refused last
@@ -96,5 +96,5 @@ kept_after_turn (Err f) d = d
 abbrev pub refused_whole : List ℕ → ScriptFault → RefusedText
 refused_whole bytes f = if nat_lt max_script (length bytes) then LongText else WholeText bytes
 
-abbrev pub refused_part : ScriptEdit → List ℕ → ScriptFault → RefusedText
+abbrev pub refused_part : Part' → List ℕ → ScriptFault → RefusedText
 refused_part what bytes f = if nat_lt max_script (length bytes) then LongText else PartText what bytes f

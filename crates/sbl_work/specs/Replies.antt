@@ -12,7 +12,7 @@ use Rattle.sbl_bench.specs.declared.fault.EditFault.TheVariants as edit
 use Rattle.sbl_text.specs.declared.fault.ScriptFault.{ScriptFault}
 use Rattle.sbl_text.specs.declared.fault.ScriptFault.TheVariants as script
 use Rattle.sbl_reports.specs.Block.{max_script}
-use Rattle.sbl_script.specs.Edits.{ScriptEdit}
+use Rattle.sbl_ast.specs.NamedParts.{Part'}
 use Rattle.sbl_sessions.specs.Answers.{edit_text, with_line_feed}
 use Rattle.sbl_sessions.specs.CommandViews.{IsTextAnswer, IsTextBreak}
 use Rattle.sbl_sessions.specs.Commands.{Command}
@@ -189,7 +189,7 @@ IsWholeReply bytes s d text t e =
     (result : Result (Unit {0}) EditFault) × ReplacesKept result bytes s d t e × (text ≡ edit_text (fault_in result))
 
 -- A part of the script is replaced by this text, without the beginning of a definition. The text is kept if it has a fault.
-abbrev pub IsPartReply : ScriptEdit → List ℕ → Contents → State → List ℕ → Contents → State → Type 0
+abbrev pub IsPartReply : Part' → List ℕ → Contents → State → List ℕ → Contents → State → Type 0
 IsPartReply what block s d text t e =
     (rest : List ℕ) × (result : Result (Unit {0}) EditFault) × (mid : State) × IsWithoutHead what block rest
     × ReplacesPart result what rest s d t mid × (e ≡ kept_after result (refused_part what block) mid) × (text ≡ edit_text (fault_in result))
@@ -201,7 +201,7 @@ IsTurnReply Turns turn_reply s d text t e =
     (result : Result (Unit {0}) HistoryFault) × (mid : State) × Turns result s d t mid × (e ≡ kept_after_turn result mid) × (text ≡ turn_reply result)
 
 -- bytes for a part are no text, and are kept
-abbrev pub IsNoPartReply : ScriptEdit → List ℕ → ScriptFault → Contents → State → List ℕ → Contents → State → Type 0
+abbrev pub IsNoPartReply : Part' → List ℕ → ScriptFault → Contents → State → List ℕ → Contents → State → Type 0
 IsNoPartReply what bytes f s d text t e =
     (text ≡ edit_text (Some (edit.Script f))) × (t ≡ s) × (e ≡ record d { refused = Some (refused_part what bytes f) })
 

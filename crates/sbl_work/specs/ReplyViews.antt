@@ -9,7 +9,7 @@ use Rattle.sbl_bench.specs.Contents.{Contents}
 use Rattle.sbl_bench.specs.KeptRuns.{KeptRuns, contents_of}
 use Rattle.sbl_bench.specs.declared.fault.EditFault.{EditFault}
 use Rattle.sbl_bench.specs.declared.fault.EditFault.TheVariants as edit
-use Rattle.sbl_script.specs.Edits.{ScriptEdit}
+use Rattle.sbl_ast.specs.NamedParts.{Part'}
 use Rattle.sbl_reports.specs.Block.{max_script}
 use Rattle.sbl_sessions.specs.CommandViews.{IsReply, KeepsLine}
 use Rattle.sbl_sessions.specs.Commands as session
@@ -113,21 +113,21 @@ NamesText (Ok v) text = (v.items ≡ text) × (length text ≤ max_script)
 NamesText (Err f) text = ((f ≡ edit.Script script.ScriptTooLong) × (max_script < length text)) ⊎ (f ≡ edit.OutOfMemory)
 
 -- a part of the script is replaced by a text, which is without the beginning of a definition; or an allocation failed
-abbrev pub IsTextResult : Result (Unit {0}) EditFault → ScriptEdit → List ℕ → Contents → State → Contents → State → Type 0
+abbrev pub IsTextResult : Result (Unit {0}) EditFault → Part' → List ℕ → Contents → State → Contents → State → Type 0
 IsTextResult result what text s d t e =
     ((rest : List ℕ) × IsWithoutHead what text rest × ReplacesPart result what rest s d t e)
     ⊎ ((result ≡ Err edit.OutOfMemory) × (t ≡ s) × (e ≡ d))
 
 -- the same for bytes, which may be no text
-abbrev pub IsBytesResult : Bool → Result (Unit {0}) EditFault → ScriptEdit → List ℕ → Contents → State → Contents → State → Type 0
+abbrev pub IsBytesResult : Bool → Result (Unit {0}) EditFault → Part' → List ℕ → Contents → State → Contents → State → Type 0
 IsBytesResult true result what bytes s d t e = IsTextResult result what bytes s d t e
 IsBytesResult false result what bytes s d t e = (result ≡ Err (edit.Script script.NotUtf8)) × (t ≡ s) × (e ≡ d)
 
-abbrev pub IsPartResult : Result (Unit {0}) EditFault → ScriptEdit → List ℕ → Contents → State → Contents → State → Type 0
+abbrev pub IsPartResult : Result (Unit {0}) EditFault → Part' → List ℕ → Contents → State → Contents → State → Type 0
 IsPartResult result what bytes s d t e = IsBytesResult (is_utf8 bytes) result what bytes s d t e
 
 -- the same, and what was typed is kept if it has a fault; or an allocation failed
-abbrev pub IsKeptPart : Result (Unit {0}) EditFault → ScriptEdit → List ℕ → Contents → State → Contents → State → Type 0
+abbrev pub IsKeptPart : Result (Unit {0}) EditFault → Part' → List ℕ → Contents → State → Contents → State → Type 0
 IsKeptPart result what bytes s d t e =
     ((mid : State) × IsPartResult result what bytes s d t mid × (e ≡ kept_after result (PartText what bytes) mid))
     ⊎ ((result ≡ Err edit.OutOfMemory) × (t ≡ s) × (e ≡ d))

@@ -4,7 +4,8 @@ use Rattle.std.specs.List.{list_all, list_any}
 use Rattle.sbl_semantics.specs.Outcome.{touches_of, used_of}
 use Rattle.sbl_semantics.specs.Touches.{same_touch}
 use Rattle.sbl_semantics.specs.declared.touch.Touch.{Touch}
-use Rattle.sbl_semantics.specs.TouchedItems.{Item', item_of, names_of}
+use Rattle.sbl_semantics.specs.TouchedItems.{item_of, names_of}
+use Rattle.sbl_ast.specs.NamedParts.{Part'}
 use Rattle.sbl_semantics.specs.declared.item.Item.{Item}
 use Rattle.sbl_machine.specs.Marks.{has_item}
 pub use Rattle.sbl_semantics.specs.Differs.{differs}
@@ -41,9 +42,9 @@ is_affected s a word = is_affected_run a (touches_of s.script word s.limit) (use
 abbrev pub Defines : Source → List Item → Type 0
 Defines script items = list_all (has_item (names_of script)) (map item_of items) ≡ true
 
-abbrev pub item_list : List Item → Option (List Item')
+abbrev pub item_list : List Item → Option (List Part')
 item_list items = Some (map item_of items)
 
 -- under each limit, the words that are affected are those whose run meets one of the listed items, or all if there is no list
-abbrev pub AreMet : Source → Option (List Item') → AffectedWords → Type 0
+abbrev pub AreMet : Source → Option (List Part') → AffectedWords → Type 0
 AreMet script items a = (limit : ℕ) (word : List ℕ) → meets_listed items script word limit ≡ is_affected (under script limit) a word

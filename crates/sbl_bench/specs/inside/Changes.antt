@@ -2,11 +2,10 @@
 use Rattle.std.specs.Prelude.{◌≡◌, ◌≢◌, ◌⊎◌, ℕ, Bool, true, false, List, [], ◌∷◌, map, ⊤, IfSome, IsSome}
 use Rattle.std.specs.List.{All, filter, list_any}
 use Rattle.std.specs.Str.{bytes_eq}
-use Rattle.sbl_script.specs.Edits.{ScriptEdit, IsEdited}
+use Rattle.sbl_script.specs.Edits.{IsEdited}
 use Rattle.sbl_ast.specs.Source.{Source}
 use Rattle.sbl_semantics.specs.Differs.{differs}
-use Rattle.sbl_semantics.specs.TouchedItems.{Item'}
-use Rattle.sbl_machine.specs.EditedItem.{edited_item}
+use Rattle.sbl_ast.specs.NamedParts.{Part'}
 use Rattle.sbl_machine.specs.declared.outcome.RunTrace.{RunTrace}
 use Rattle.sbl_semantics.specs.declared.touch.Touch.{Touch}
 use Rattle.sbl_semantics.specs.Outcome.{Outcome', outcome_of, run_of, touches_of, used_of}
@@ -90,9 +89,9 @@ pub record Brings (s : Contents) (e : Edit) (t : Setting) (a : AffectedWords) : 
   pub stays : (w : List ℕ) → is_affected s.setting a w ≡ false → RunsSame s.setting t w
 
 -- An edit made this script by replacing this item, and passes all tests but those of its text.
-pub record IsTaken (s : Contents) (e : ScriptEdit) (text : List ℕ) (t : Source) (x : Item') : Type 0 where
+pub record IsTaken (s : Contents) (e : Part') (text : List ℕ) (t : Source) (x : Part') : Type 0 where
   pub edited : IsEdited s.setting.script e text t
-  pub replaces : x ≡ edited_item e
+  pub replaces : x ≡ e
   pub passes : PassesTests s (Replace e text)
 
 -- An edit puts a whole script into force under the limit before, and passes all tests but those of its text. It has to run the

@@ -3,7 +3,7 @@ use Rattle.std.specs.Prelude.{ℕ, ◌+◌, ◌-◌, Bool, true, List, length, O
 use Rattle.std.specs.List.{fold}
 use Rattle.std.specs.Option.{option_map_or}
 use Rattle.sbl_ast.specs.Source.{Source}
-use Rattle.sbl_semantics.specs.TouchedItems.{Item'}
+use Rattle.sbl_ast.specs.NamedParts.{Part'}
 use Rattle.sbl_machine.specs.BuiltFrom.{meets_one}
 use Rattle.sbl_rows.specs.Setting.{Setting}
 use Rattle.sbl_bench.specs.Contents.{Contents, max_runs, max_words}
@@ -22,7 +22,7 @@ abbrev pub lacks_counts : Contents → Edit → Setting → Bool
 lacks_counts s e t = nat_lt (max_runs - s.count) (runs_needed s e t)
 
 -- whether the run of a word meets one of the listed items, by what each of them affects; true if there is no list
-abbrev pub meets_listed : Option (List Item') → Source → List ℕ → ℕ → Bool
+abbrev pub meets_listed : Option (List Part') → Source → List ℕ → ℕ → Bool
 meets_listed listed script word limit = option_map_or (λ items. meets_one items script word limit) listed true
 
 -- the bench after an accepted edit with this setting after it

@@ -3,7 +3,8 @@ use Rattle.std.specs.List.{list_any}
 use Rattle.sbl_bench.specs.KeptRuns.{setting_of}
 use Rattle.sbl_bench.specs.Vocabulary.{is_word}
 use Rattle.sbl_machine.specs.BuiltFrom.{meets}
-use Rattle.sbl_semantics.specs.TouchedItems.{Item', item_of}
+use Rattle.sbl_semantics.specs.TouchedItems.{item_of}
+use Rattle.sbl_ast.specs.NamedParts.{Part'}
 use Rattle.sbl_explain.specs.Kept.{HasItems, is_one_of}
 use Rattle.sbl_explain.proofs.kept_takes.words_meeting.Given as goal
 
@@ -12,5 +13,5 @@ abbrev pub invariant-loop-item : goal.invariant-loop-item
 invariant-loop-item l =
     HasItems l.bench l.items
     → (w : List ℕ) → is_word w l.bench.words ≡ true → is_one_of l.words w ≡ false
-    → list_any (λ (x : Item'). meets x (setting_of l.bench).script w (setting_of l.bench).limit) (map item_of (drop l.item-index l.items))
-    ≡ list_any (λ (x : Item'). meets x (setting_of l.bench).script w (setting_of l.bench).limit) (map item_of l.items)
+    → list_any (λ (x : Part'). meets x (setting_of l.bench).script w (setting_of l.bench).limit) (map item_of (drop l.item-index l.items))
+    ≡ list_any (λ (x : Part'). meets x (setting_of l.bench).script w (setting_of l.bench).limit) (map item_of l.items)

@@ -3,7 +3,8 @@ use Rattle.std.specs.List.{list_any}
 use Rattle.sbl_machine.specs.BuiltFrom.{any_names}
 use Rattle.sbl_machine.specs.inside.BuiltFromParts.{names}
 use Rattle.sbl_machine.specs.ItemRefs.{items_of_refs}
-use Rattle.sbl_semantics.specs.TouchedItems.{Grouping, same_item}
+use Rattle.sbl_semantics.specs.TouchedItems.{same_item}
+use Rattle.sbl_ast.specs.NamedParts.{Grouping}
 use Rattle.sbl_ast.specs.View.{view_argument, view_plain, view_term}
 use Rattle.sbl_ast.specs.declared.tree.Plain as declared-plain
 use Rattle.sbl_ast.specs.declared.tree.Term as declared

@@ -12,7 +12,8 @@ use Rattle.sbl_resolver.specs.Checks.{fault_of}
 use Rattle.sbl_script.specs.ParsedScript.{source_of}
 use Rattle.sbl_script.specs.Reading.{IsUnread, first_left_out, lexemes}
 use Rattle.sbl_script.specs.SpelledScript.{AreSpelled, IsSpelled}
-use Rattle.sbl_script.specs.Edits.{body, is_routine_named, items_with, first_of}
+use Rattle.sbl_ast.specs.NamedParts.{Routine as body}
+use Rattle.sbl_script.specs.Edits.{is_routine_named, items_with, first_of}
 use Rattle.sbl_script.specs.Homes.{home_of_body}
 use Rattle.sbl_script.proofs.Agreement.{edited_out, first_same}
 use Rattle.sbl_script.proofs.Editing as editing

@@ -13,7 +13,8 @@ use Rattle.sbl_resolver.specs.Checks.{fault_of}
 use Rattle.sbl_script.specs.ParsedScript.{source_of}
 use Rattle.sbl_script.specs.Reading.{IsUnread, first_left_out, lexemes}
 use Rattle.sbl_script.specs.declared.edit_fault.EditFault.TheVariants as edits
-use Rattle.sbl_script.specs.Edits.{among, is_routine_named, items_with, first_of}
+use Rattle.sbl_ast.specs.NamedParts.{Among as among}
+use Rattle.sbl_script.specs.Edits.{is_routine_named, items_with, first_of}
 use Rattle.sbl_script.specs.Homes.{home_of_among, state_reached}
 use Rattle.sbl_script.proofs.Agreement.{edited_out, fault_out, first_same, missing_out}
 use Rattle.sbl_script.proofs.Editing as editing

@@ -12,7 +12,8 @@ use Rattle.sbl_resolver.specs.Checks.{fault_of}
 use Rattle.sbl_script.specs.ParsedScript.{source_of}
 use Rattle.sbl_script.specs.Reading.{IsUnread, first_left_out, lexemes}
 use Rattle.sbl_script.specs.SpelledScript.{AreSpelled, IsSpelled}
-use Rattle.sbl_script.specs.Edits.{terms, is_grouping_named, items_with, first_of}
+use Rattle.sbl_ast.specs.NamedParts.{Grouping as terms}
+use Rattle.sbl_script.specs.Edits.{is_grouping_named, items_with, first_of}
 use Rattle.sbl_script.specs.Homes.{home_of_terms}
 use Rattle.sbl_script.proofs.Agreement.{edited_out, first_same}
 use Rattle.sbl_script.proofs.Editing as editing
