@@ -1,5 +1,6 @@
 -- What it means to read a script, and why bytes are not a script.
-use Rattle.std.specs.Prelude.{◌≡◌, ◌⊎◌, ℕ, ◌<◌, ◌≤◌, List, [], ◌∷◌, ◌++◌, length, map, Option, Some, None, if◌then◌else◌}
+use Rattle.std.specs.Prelude.{◌≡◌, ◌⊎◌, ℕ, ◌<◌, ◌≤◌, List, [], ◌∷◌, ◌++◌, length, map, slice_get, Option, Some, None, if◌then◌else◌}
+use Rattle.std.specs.Option.{option_map_or}
 use Rattle.std.specs.Str.{IsUtf8, chars}
 use Rattle.sbl_text.specs.declared.fault.ScriptFault.{ScriptFault}
 use Rattle.sbl_text.specs.declared.fault.ScriptFault.TheVariants as fault
@@ -54,8 +55,7 @@ IsTextFault s bytes f =
 
 -- the position of the first token, or the length of the text if there is none
 abbrev pub place_of : ℕ → List PlacedToken → ℕ
-place_of end [] = end
-place_of end (t ∷ ts) = t.start
+place_of end ts = option_map_or (λ t. t.start) (slice_get ts 0) end
 
 -- a token is not supported; or the tokens, in a text of this length, form no tree, or one is too deep
 abbrev pub IsUnread : Text → List PlacedToken → ℕ → ScriptFault → Type 0

@@ -24,13 +24,11 @@ one_of wanted class m s = move_if (option_map_or (λ c. if wanted then class c e
 
 -- `hop` moves over this many characters, and `next` over one; a negative number signals f
 abbrev pub hop : Option ℕ → Mode → State → Ending
-hop None m s = Signals false s
-hop (Some n) m s = move_if (nat_le n (room m s)) n m s
+hop distance m s = option_map_or (λ n. move_if (nat_le n (room m s)) n m s) distance (Signals false s)
 
 -- `atmark` tests that the cursor is at an offset
 abbrev pub at_mark : Option ℕ → State → Ending
-at_mark None s = Signals false s
-at_mark (Some n) s = Signals (nat_eq s.cursor n) s
+at_mark place s = Signals (option_map_or (nat_eq s.cursor) place false) s
 
 -- `tomark` moves the cursor to an offset between the cursor and the limit of the direction
 abbrev pub to_mark : Option ℕ → Mode → State → Ending
