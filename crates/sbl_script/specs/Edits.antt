@@ -146,7 +146,7 @@ IsEditFault s e text (edits.Script f) =
 IsEditFault s e text edits.OutOfMemory = ⊥
 IsEditFault s e text f = text_for s.items e ≡ Err f
 
--- ---- names for parts of these definitions, which only the code and proofs use
+-- ---- names for parts of these definitions, which the code, other crates and proofs use
 
 -- the item defines the routine with this name
 abbrev pub is_routine_named : List ℕ → Plain → Bool
