@@ -1,5 +1,5 @@
 -- Where the faults of the grammar stand.
-use Rattle.std.proofs.Common.{◌≡◌, ◌⊎◌, ℕ, List, [], ◌∷◌, ◌++◌, None, map, take, drop, refl, sym, ap, subst, ◌∙◌, inl, inr, Result, Ok, Err, IfErr, IfOk}
+use Rattle.std.proofs.Common.{◌≡◌, ◌⊎◌, ℕ, List, [], ◌∷◌, ◌++◌, None, length, map, take, drop, refl, sym, ap, subst, ◌∙◌, inl, inr, Result, Ok, Err, IfErr, IfOk}
 use Rattle.std.proofs.lemmas.List.{take-append-drop, map-append}
 use Rattle.sbl_text.specs.declared.fault.ScriptFault.{ScriptFault}
 use Rattle.sbl_text.specs.declared.fault.ScriptFault.TheVariants as fault
@@ -7,9 +7,10 @@ use Rattle.sbl_token.specs.declared.token.Token.{Token}
 use Rattle.sbl_token.specs.Lexemes.{Lexeme, lexeme_of}
 use Rattle.sbl_text.specs.Tokens.{PlacedToken, placed_of}
 use Rattle.sbl_parser.specs.Reading.{IsSyntaxAt, IsTooDeepAt, IsOutOfProfileAt}
-use Rattle.sbl_ast.specs.Texts.{Text}
+use Rattle.sbl_ast.specs.Texts.{Text, script}
+use Rattle.sbl_text.specs.Directives.{start}
 use Rattle.sbl_parser.specs.FaultOffsets as grammar
-use Rattle.sbl_script.specs.Reading.{lexemes, place_of, IsUnread, first_left_out}
+use Rattle.sbl_script.specs.Reading.{HasTokens, lexemes, place_of, IsFaultOf, IsUnread, first_left_out}
 
 pub lexemes_same : (ts : List Token) → map lexeme_of ts ≡ lexemes (map placed_of ts)
 lexemes_same [] = refl
@@ -57,3 +58,9 @@ read_as (Err f) P ts h = h
 pub offered_too : {X : Type 0} (r : Result X ScriptFault) (ts : List PlacedToken) → first_left_out ts ≡ None → IfOk r (λ x. first_left_out ts ≡ None)
 offered_too (Ok x) ts h = h
 offered_too (Err f) ts h = tt
+
+-- the fault of bytes whose tokens have no tree
+pub unread_is_fault : (bytes external : List ℕ) (ts : List PlacedToken) (f : ScriptFault) → HasTokens start bytes ts
+    → (f ≡ fault.OutOfMemory) ⊎ IsUnread script ts (length bytes) f → (f ≡ fault.OutOfMemory) ⊎ IsFaultOf bytes external f
+unread_is_fault bytes external ts f tokens (inl m) = inl m
+unread_is_fault bytes external ts f tokens (inr u) = inr (inr (inl (ts, tokens, u)))
