@@ -67,7 +67,7 @@ fn in_starter(among: &Among, depth: u8, number: u64) -> WalkEnd<'_>
 
 #[cycle(find)]
 fn in_groups(groups: &Vec<Group>, depth: u8, number: u64) -> WalkEnd<'_>
-    ensures { AreShallow (placed_groups (view_groups groups.now.items []) depth []) → (bare : List Entry) → Finds result number (λ rest. amongs_of_groups (view_groups groups.now.items bare) depth rest) }
+    ensures { AreShallow (placed_groups (view_groups groups.now.items []) depth []) → (bare : List Entry) → Finds result number (λ r. amongs_of_groups (view_groups groups.now.items bare) depth r) }
 {
     let mut following = number;
     for group in groups {

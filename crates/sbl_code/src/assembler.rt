@@ -232,7 +232,7 @@ impl Assembler {
     ) -> Result<Exits, AllocError>
         requires { count ≤ length commands.now }
         ensures fail { IfOk result (λ tail. tail.fail.value ≡ exits.now.fail.value) }
-        ensures next { IfOk result (λ tail. (tables : ℕ → Listing) → PerformsWithExits tables (λ p levels. all_run p levels (view_nodes tables (drop count commands.now))) 0 slot exits.now tail.next.value) }
+        ensures next { IfOk result (λ tail. (t : ℕ → Listing) → PerformsWithExits t (λ p levels. all_run p levels (view_nodes t (drop count commands.now))) 0 slot exits.now tail.next.value) }
     {
         let mut now = exits.copy()?;
         let mut i = commands.len();
@@ -252,7 +252,7 @@ impl Assembler {
         slot: usize,
         exits: &Exits,
     ) -> Result<Rc<Instruction>, AllocError>
-        ensures { IfOk result (λ made. (tables : ℕ → Listing) → PerformsWithExits tables (λ p levels. pay_first (fail_of (runs p levels (view_node tables inner.now)))) cost slot exits.now made.value) }
+        ensures { IfOk result (λ made. (t : ℕ → Listing) → PerformsWithExits t (λ p levels. pay_first (fail_of (runs p levels (view_node t inner.now)))) cost slot exits.now made.value) }
     {
         let own = Exits {
             next: exits.fail.clone()?,

@@ -263,7 +263,7 @@ impl<'a> Finder<'a> {
         groups: &Vec<Group>,
         all: &mut Vec<AmongStrings>,
     ) -> Result<(), AllocError>
-        ensures { OnOk result ((bare : List trees.Entry) → Finds all.old.items all.new.items (found_groups (view_names self.now.names.now) self.now.first self.now.mode (view_groups groups.now.items bare))) }
+        ensures { OnOk result ((e : List trees.Entry) → Finds all.old.items all.new.items (found_groups (view_names self.now.names.now) self.now.first self.now.mode (view_groups groups.now.items e))) }
     {
         for group in groups {
             self.find_rows(&group.rows, all)?;

@@ -106,7 +106,7 @@ fn class_of(
     first: &Argument,
     others: &Vec<Term>,
 ) -> Result<CharacterClass, AllocError>
-    ensures { IfOk result (λ class. members class ≡ spec.with_terms (view_names names.now) (map members classes.now) (term Plus (view_argument first.now) ∷ map view_term others.now.items) no_character) }
+    ensures { IfOk result (λ c. members c ≡ spec.with_terms (view_names names.now) (map members classes.now) (term Plus (view_argument first.now) ∷ map view_term others.now.items) no_character) }
 {
     let last = last_places(alloc, names, others)?;
     let none = CharacterClass::new(alloc);

@@ -397,7 +397,7 @@ impl Compiler<'_> {
         groups: &Vec<Group>,
         place: &mut CommandPosition,
     ) -> CompileResult<Vec<Node>>
-        ensures made { IfOk result (λ v. (bare : List trees.Entry) → map (node_in self.now) v.items ≡ numbered_groups (names_in self.now) (view_groups groups.now.items bare) (place_in self.now place.old)) }
+        ensures made { IfOk result (λ v. (es : List trees.Entry) → map (node_in self.now) v.items ≡ numbered_groups (names_in self.now) (view_groups groups.now.items es) (place_in self.now place.old)) }
         ensures following { OnOk result ((bare : List trees.Entry) → place_in self.now place.new ≡ spec.past_groups (view_groups groups.now.items bare) (place_in self.now place.old)) }
     {
         collect!(self.alloc; bodies: group in groups => nodes: self.region(&group.rows, place) => {

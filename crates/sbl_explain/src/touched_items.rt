@@ -77,7 +77,7 @@ fn add_argument<'a>(
     items: &mut BTreeSet<ItemRef<'a>>,
     argument: &'a Argument,
 ) -> Result<(), AllocError>
-    ensures { OnOk result ((test : Part' → Bool) → list_any test (items_of_refs items.new) ≡ (names (λ k. test (Grouping k)) (view_argument argument.now) || list_any test (items_of_refs items.old))) }
+    ensures { OnOk result ((p : Part' → Bool) → list_any p (items_of_refs items.new) ≡ (names (λ k. p (Grouping k)) (view_argument argument.now) || list_any p (items_of_refs items.old))) }
 {
     match argument {
         Argument::Literal(_) => Ok(()),
@@ -87,7 +87,7 @@ fn add_argument<'a>(
 
 /// Adds the groupings that terms name. Returns `AllocError` if an allocation fails.
 fn add_terms<'a>(items: &mut BTreeSet<ItemRef<'a>>, terms: &'a [Term]) -> Result<(), AllocError>
-    ensures { OnOk result ((test : Part' → Bool) → list_any test (items_of_refs items.new) ≡ (any_names (λ k. test (Grouping k)) (map view_term terms.now) || list_any test (items_of_refs items.old))) }
+    ensures { OnOk result ((p : Part' → Bool) → list_any p (items_of_refs items.new) ≡ (any_names (λ k. p (Grouping k)) (map view_term terms.now) || list_any p (items_of_refs items.old))) }
 {
     for term in terms {
         add_argument(items, &term.argument)?;

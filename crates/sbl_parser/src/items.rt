@@ -61,7 +61,7 @@ fn macro_literal(cursor: &mut Cursor<'_, '_>) -> ReadResult<Literal>
 
 /// Parses the terms of a grouping and returns the first one and those after it.
 pub fn terms(cursor: &mut Cursor<'_, '_>) -> ReadResult<(Argument, Vec<Term>)>
-    ensures { Reads (wanted.argument 0 ∷ wanted.terms ∷ []) (λ x rest. argument_terminal (view_argument x.0) ∷ spelled_terms (map view_term x.1.items) rest) (ahead cursor.old) result (ahead cursor.new) }
+    ensures { Reads (wanted.argument 0 ∷ wanted.terms ∷ []) (λ x r. argument_terminal (view_argument x.0) ∷ spelled_terms (map view_term x.1.items) r) (ahead cursor.old) result (ahead cursor.new) }
 {
     Ok(chain!(cursor, 0, argument; Additive => Term { operator, argument }))
 }

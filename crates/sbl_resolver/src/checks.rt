@@ -199,7 +199,7 @@ pub(crate) fn fault_at<'a>(
     sites: &BTreeMap<&'a str, Site>,
     met: &CheckState<'a>,
 ) -> Option<ScriptFault>
-    ensures { (all before : List PlainOccurrence) → HasPlaces sites.now all → HasMet met.now before → result ≡ spec.fault_at all before (view_occurrence occurrence.now) (view_occurrences after.now) }
+    ensures { (os before : List PlainOccurrence) → HasPlaces sites.now os → HasMet met.now before → result ≡ spec.fault_at os before (view_occurrence occurrence.now) (view_occurrences after.now) }
 {
     let site = occurrence.site;
     let item = site.item;

@@ -85,7 +85,7 @@ struct Answered {
 /// and `Read` and `LineTooLong` as the lines return them.
 fn answer<R: Source + Drop>(bench: &mut Bench, lines: &mut Lines<R>) -> Result<Answered, ServeFault>
     requires ready { lines.old.fault ≡ None }
-    ensures answered { IfOk result (λ answered. IsAnswered (input_of R.left lines.old) (input_of R.left lines.new) (line_of lines.old) (contents_of bench.old) answered.reply (contents_of bench.new)) }
+    ensures answered { IfOk result (λ a. IsAnswered (input_of R.left lines.old) (input_of R.left lines.new) (line_of lines.old) (contents_of bench.old) a.reply (contents_of bench.new)) }
     ensures broken { IfErr result (λ fault. BreaksBlock (input_of R.left lines.old) (input_of R.left lines.new) (line_of lines.old) fault × (contents_of bench.new ≡ contents_of bench.old)) }
     ensures reading { Reading R.left R.tally lines.old lines.new result }
 {
