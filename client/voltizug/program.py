@@ -125,7 +125,10 @@ class Program:
     def set_stop(self, is_there: bool) -> None:
         """Makes the file at which an edit is broken off, or takes it away."""
         with contextlib.suppress(OSError):
-            open(self.stop_path, "w").close() if is_there else os.remove(self.stop_path)
+            if is_there:
+                open(self.stop_path, "w").close()
+            else:
+                os.remove(self.stop_path)
 
     def ask(self, lines: Sequence[str], patience: Optional[float] = None) -> Reply:
         return self.ask_each([lines], patience)[0]
