@@ -56,13 +56,13 @@ in_groups-loop-group-preserved t c =
 pub in_others-returns-in-There : goal.in_others-returns-in-There
 in_others-returns-in-There t c =
     let prefix = p.at_prefix view_parts.view_next_command c.args.others.now.items c.deref-joined-items.result.now c.loop-joined.joined-index c.joined-item.result c.deref-joined-items.ensures.value c.loop-joined-test.true c.joined-item.is in
-    let whole = prefix ∙ ap (λ (y : view.NextCommandView). y ∷ map view_parts.view_next_command (drop (c.loop-joined.joined-index + 1) c.args.others.now.items)) (views.seen_next_command c.joined-item.result) in
+    let whole = prefix ∙ ap (λ (y : view_parts.NextCommandView). y ∷ map view_parts.view_next_command (drop (c.loop-joined.joined-index + 1) c.args.others.now.items)) (views.seen_next_command c.joined-item.result) in
     f.others_there c.in-There.depth c.in-There.among c.loop-joined.following c.args.number c.args.depth (c.joined-item.result.joiner, view.view_command c.joined-item.result.command) _ _ (map view_parts.view_next_command c.args.others.now.items) whole c.loop-joined.invariant c.in-There.ensures
 
 pub in_others-loop-joined-preserved : goal.in_others-loop-joined-preserved
 in_others-loop-joined-preserved t c =
     let prefix = p.at_prefix view_parts.view_next_command c.args.others.now.items c.deref-joined-items.result.now c.loop-joined.joined-index c.joined-item.result c.deref-joined-items.ensures.value c.loop-joined-test.true c.joined-item.is in
-    let whole = prefix ∙ ap (λ (y : view.NextCommandView). y ∷ map view_parts.view_next_command (drop (c.loop-joined.joined-index + 1) c.args.others.now.items)) (views.seen_next_command c.joined-item.result) in
+    let whole = prefix ∙ ap (λ (y : view_parts.NextCommandView). y ∷ map view_parts.view_next_command (drop (c.loop-joined.joined-index + 1) c.args.others.now.items)) (views.seen_next_command c.joined-item.result) in
     f.others_next c.loop-joined.following c.args.number c.in-After.next c.args.depth (c.joined-item.result.joiner, view.view_command c.joined-item.result.command) _ _ (map view_parts.view_next_command c.args.others.now.items) whole c.loop-joined.invariant c.in-After.ensures
 
 pub in_row-returns-in-After : goal.in_row-returns-in-After

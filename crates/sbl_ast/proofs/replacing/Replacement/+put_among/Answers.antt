@@ -27,7 +27,7 @@ put_after-loop-joined-preserved t_ c =
     let prefix = p.at_prefix view_parts.view_next_command c.args.others.now.items c.deref-joined-items.result.now c.loop-joined.joined-index c.joined-item.result c.deref-joined-items.ensures.value c.loop-joined-test.true c.joined-item.is in
     let now = p.map_appended view_parts.view_next_command c.loop-joined.copies.items c.push.new.self.items _ c.in_ok-push.ensures.items in
     let seen = views.seen_next_command c.joined-item.result in
-    let whole = prefix ∙ ap (λ (y : view.NextCommandView). y ∷ map view_parts.view_next_command (drop (c.loop-joined.joined-index + 1) c.args.others.now.items)) seen in
+    let whole = prefix ∙ ap (λ (y : view_parts.NextCommandView). y ∷ map view_parts.view_next_command (drop (c.loop-joined.joined-index + 1) c.args.others.now.items)) seen in
     record {
       put = p.others_put (map view_parts.view_next_command c.loop-joined.copies.items) (map view_parts.view_next_command c.push.new.self.items) _ (c.joined-item.result.joiner, view.view_command c.joined-item.result.command) _ _ _ c.loop-joined.rest c.in_ok-command.after (view.view_among c.args.self.now.among.now) now (views.view_of_next_command (record { joiner = c.joined-item.result.joiner; command = c.in_ok-command.command }) ∙ ap (λ (y : trees.Command). (c.joined-item.result.joiner, y)) c.in_ok-command.ensures.put) c.in_ok-command.ensures.rest whole c.loop-joined.invariant.put;
       rest = p.others_left (c.joined-item.result.joiner, view.view_command c.joined-item.result.command) _ _ _ c.loop-joined.rest c.in_ok-command.after c.in_ok-command.ensures.rest whole c.loop-joined.invariant.rest;
