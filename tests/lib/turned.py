@@ -5,6 +5,7 @@ of all cases by the checks as they are and by each of the copies; a pair is seen
 the fault of a script, or that it has none.
 Equations that have no condition are in tests/sources/turned.d/plain, a line each with the reason.
 """
+import itertools
 import os
 import re
 import shutil
@@ -95,20 +96,28 @@ def equations(path):
                 yield from ("%s | %s" % (head, branch) for branch in re.findall(r"[\[|] ([^\[\]|↦]+) ↦ ", line))
 
 
+def branches(text):
+    """Returns the value of each branch of an `elim` on a line, by its pattern."""
+    return dict(re.findall(r"[\[|] ([^\[\]|↦]+) ↦ ([^|\]\n]*)", text))
+
+
 def uncovered(pairs):
     """Returns the equations that no pair changes and that are not listed as plain."""
     with open(os.path.join(TOP, "tests", "sources", "turned.d", "plain"), encoding="utf-8") as file:
         plain = {line.split(" # ")[0].strip() for line in file if line.strip() and not line.startswith("#")}
     texts = {}
     for pair in pairs:
-        for path, old, _ in pair.edits:
-            texts.setdefault(path, []).extend(line.strip() for line in old.split("\n"))
+        for path, old, new in pair.edits:
+            for line, after in itertools.zip_longest(old.split("\n"), new.split("\n"), fillvalue=""):
+                texts.setdefault(path, []).append((line.strip(), branches(line).items() - branches(after).items()))
     known, missing = set(), []
     for path in EQUATIONS:
         for head in equations(path):
             known.add(head)
-            seen = head.partition(" | ")[2] + " ↦ "
-            if head not in plain and not any(text.startswith(head + " ") or (" | " in head and seen in text) for text in texts.get(path, [])):
+            branch = head.partition(" | ")[2]
+            if head not in plain and not any(
+                text.startswith(head + " ") or any(branch and branch == name for name, _ in changed) for text, changed in texts.get(path, [])
+            ):
                 missing.append("%s: %s" % (os.path.basename(path), head))
     return missing, sorted(plain - known)
 

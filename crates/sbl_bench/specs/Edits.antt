@@ -7,7 +7,6 @@ use Rattle.std.specs.Str.{bytes_eq}
 use Rattle.sbl_script.specs.declared.edit_fault.EditFault as declared
 use Rattle.sbl_script.specs.declared.edit_fault.EditFault.TheVariants as script
 use Rattle.sbl_ast.specs.NamedParts.{Part'}
-use Rattle.sbl_ast.specs.NamedParts as parts
 use Rattle.sbl_script.specs.Edits.{IsEdited, IsEditFault}
 use Rattle.sbl_script.specs.Reading.{IsScriptOf, IsFaultOf}
 use Rattle.sbl_text.specs.declared.fault.ScriptFault.{ScriptFault}
@@ -29,18 +28,6 @@ pub data Edit : Type 0 where
   Replace : Part' → List ℕ → Edit
   Whole : List ℕ → Edit
   Limit : ℕ → Edit
-
--- the body of the routine of this name is replaced
-abbrev pub Routine : List ℕ → List ℕ → Edit
-Routine name text = Replace (parts.Routine name) text
-
--- the among of this number in the routine of this name is replaced
-abbrev pub Among : List ℕ → ℕ → List ℕ → Edit
-Among name k text = Replace (parts.Among name k) text
-
--- the terms of the grouping of this name are replaced
-abbrev pub Grouping : List ℕ → List ℕ → Edit
-Grouping name text = Replace (parts.Grouping name) text
 
 -- ---- refusals of an edit
 

@@ -29,11 +29,11 @@ impl Bench {
     ghost use Rattle.sbl_bench.specs.BreakingOff.{BreaksIfTold, EditsOrBreaks};
     ghost use Rattle.sbl_bench.specs.KeptRuns.{contents_of as contents};
     ghost use Rattle.sbl_bench.specs.inside.Changes.{Brings, IsExchange, IsTaken, affected_of};
-    ghost use Rattle.sbl_bench.specs.Edits.{Edit, Edits, Add, Grouping, Limit, Remove, Replace, Routine, Among, Whole};
+    ghost use Rattle.sbl_bench.specs.Edits.{Edit, Edits, Add, Limit, Remove, Replace, Whole};
     ghost use Rattle.sbl_bench.specs.LeavesChanges.{LeavesChanges};
     ghost use Rattle.sbl_rows.specs.Setting.{under};
     ghost use Rattle.sbl_semantics.specs.TouchedItems.{item_of};
-    ghost use Rattle.sbl_ast.specs.NamedParts.{Part'};
+    ghost use Rattle.sbl_ast.specs.NamedParts.{Among, Grouping, Part', Routine};
     ghost use Rattle.sbl_script.specs.ParsedScript.{source_of};
     ghost use Rattle.sbl_script.specs.Parts.{view_part};
 
@@ -138,7 +138,7 @@ impl Bench {
 
     /// Replaces the body of the routine or external of this name, as `replace` does.
     pub fn replace_routine(&mut self, name: &str, text: &str) -> Result<(), EditFault>
-        ensures edits { Edits result (contents self.old) (Routine name.now text.now) (contents self.new) }
+        ensures edits { Edits result (contents self.old) (Replace (Routine name.now) text.now) (contents self.new) }
         ensures changes { LeavesChanges result self.old self.new }
     {
         self.replace(Part::Routine(name), text)
@@ -147,7 +147,7 @@ impl Bench {
     /// Replaces the `k`-th among of the routine or external of this name, as `replace` does. Amongs are counted from 1 in the
     /// order of the words `among`.
     pub fn replace_among(&mut self, name: &str, k: u64, text: &str) -> Result<(), EditFault>
-        ensures edits { Edits result (contents self.old) (Among name.now k text.now) (contents self.new) }
+        ensures edits { Edits result (contents self.old) (Replace (Among name.now k) text.now) (contents self.new) }
         ensures changes { LeavesChanges result self.old self.new }
     {
         self.replace(Part::Among(name, k), text)
@@ -155,7 +155,7 @@ impl Bench {
 
     /// Replaces the terms of the grouping of this name, as `replace` does.
     pub fn replace_grouping(&mut self, name: &str, text: &str) -> Result<(), EditFault>
-        ensures edits { Edits result (contents self.old) (Grouping name.now text.now) (contents self.new) }
+        ensures edits { Edits result (contents self.old) (Replace (Grouping name.now) text.now) (contents self.new) }
         ensures changes { LeavesChanges result self.old self.new }
     {
         self.replace(Part::Grouping(name), text)

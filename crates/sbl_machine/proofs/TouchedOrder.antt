@@ -7,7 +7,8 @@ use Rattle.std.specs.Ordering.{match_ordering, nat_cmp, ordering_then}
 use Rattle.std.specs.Cmp.Lexicographic.{slice_cmp}
 use Rattle.std.specs.BTreeSet.{insert_key}
 use Rattle.std.proofs.lemmas.Map.Lookups.{exact_bytes, exact_unsigned}
-use Rattle.sbl_semantics.specs.TouchedItems.{item_cmp, in_item_order}
+use Rattle.sbl_semantics.specs.TouchedItems.{item_cmp}
+use Rattle.sbl_ast.specs.Folds.{foldr}
 use Rattle.sbl_ast.specs.NamedParts.{Part', Routine, Among, Grouping}
 
 pub then_equal : (o p : Ordering) → ordering_then o p ≡ Equal → (o ≡ Equal) × (p ≡ Equal)
@@ -47,6 +48,10 @@ any_inserted test (x ∷ xs) k = by (item_cmp k x) refl (any_inserted test xs k)
     by Less h rest = rw h refl
     by Equal h rest = rw h (subst (λ (y : Part'). (test x || list_any test xs) ≡ (test y || (test x || list_any test xs))) (sym (item_exact k x h)) (or_again (test x) (list_any test xs)))
     by Greater h rest = rw h (ap (λ (b : Bool). test x || b) rest ∙ or_swap (test x) (test k) (list_any test xs))
+
+-- items in order, each once
+abbrev pub in_item_order : List Part' → List Part'
+in_item_order xs = foldr (λ x ys. insert_key item_cmp ys x) [] xs
 
 -- one of the items passes exactly where one of those in order does
 pub any_ordered : (test : Part' → Bool) (xs : List Part') → list_any test (in_item_order xs) ≡ list_any test xs

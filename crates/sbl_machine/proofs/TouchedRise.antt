@@ -11,8 +11,9 @@ use Rattle.std.specs.BTreeSet.{insert_key}
 use Rattle.std.proofs.Math.Path.{fun_ext}
 use Rattle.std.proofs.lemmas.Cmp.{nat_cmp_total, nat_list_cmp_total, on_total, then_total}
 use Rattle.sbl_machine.specs.Frame.{TouchedRise}
+use Rattle.sbl_machine.proofs.TouchedOrder.{in_item_order}
 use Rattle.sbl_semantics.specs.Outcome.{touches_of}
-use Rattle.sbl_semantics.specs.TouchedItems.{item_cmp, item_of_touch, in_item_order, names_of, touched_items}
+use Rattle.sbl_semantics.specs.TouchedItems.{item_cmp, item_of_touch, names_of, touched_items}
 use Rattle.sbl_ast.specs.NamedParts.{Part', Routine, Among, Grouping}
 
 -- ---- the order of items is that of their kinds, then of their names, then of their numbers

@@ -152,7 +152,7 @@ impl Script {
     ghost use Rattle.sbl_script.specs.ParsedScript.{body_of};
     ghost use Rattle.sbl_print.specs.Canonical.{canonical};
     ghost use Rattle.sbl_script.specs.Reading.{HasTokens};
-    ghost use Rattle.sbl_ast.specs.NamedParts.{Among as among, Routine as body, Grouping as terms};
+    ghost use Rattle.sbl_ast.specs.NamedParts.{Among, Grouping, Routine};
     ghost use Rattle.sbl_script.specs.Edits.{IsEditFault, IsEdited, changes, items_with, text_for};
     ghost use Rattle.sbl_script.specs.Homes.{state_reached};
     ghost use Rattle.sbl_script.specs.Parts.{view_part};
@@ -214,9 +214,9 @@ impl Script {
 
     /// Returns the script with `text` as the body of the routine `name`, as `with` does.
     pub fn with_routine(&self, alloc: Global, name: &str, text: &str) -> Result<Script, EditFault>
-        ensures script { IfOk result (λ s. IsEdited (source_of self.now) (body name.now) text.now (source_of s)) }
-        ensures fault { IfErr result (λ f. (f ≡ EditFault.OutOfMemory) ⊎ IsEditFault (source_of self.now) (body name.now) text.now f) }
-        ensures missing { (f : EditFault) → text_for (source_of self.now).items (body name.now) ≡ Err f → result ≡ Err f }
+        ensures script { IfOk result (λ s. IsEdited (source_of self.now) (Routine name.now) text.now (source_of s)) }
+        ensures fault { IfErr result (λ f. (f ≡ EditFault.OutOfMemory) ⊎ IsEditFault (source_of self.now) (Routine name.now) text.now f) }
+        ensures missing { (f : EditFault) → text_for (source_of self.now).items (Routine name.now) ≡ Err f → result ≡ Err f }
     {
         self.with(alloc, Part::Routine(name), text)
     }
@@ -230,26 +230,26 @@ impl Script {
         k: u64,
         text: &str,
     ) -> Result<Script, EditFault>
-        ensures script { IfOk result (λ s. IsEdited (source_of self.now) (among routine.now k) text.now (source_of s)) }
-        ensures fault { IfErr result (λ f. (f ≡ EditFault.OutOfMemory) ⊎ IsEditFault (source_of self.now) (among routine.now k) text.now f) }
-        ensures missing { (f : EditFault) → text_for (source_of self.now).items (among routine.now k) ≡ Err f → result ≡ Err f }
+        ensures script { IfOk result (λ s. IsEdited (source_of self.now) (Among routine.now k) text.now (source_of s)) }
+        ensures fault { IfErr result (λ f. (f ≡ EditFault.OutOfMemory) ⊎ IsEditFault (source_of self.now) (Among routine.now k) text.now f) }
+        ensures missing { (f : EditFault) → text_for (source_of self.now).items (Among routine.now k) ≡ Err f → result ≡ Err f }
     {
         self.with(alloc, Part::Among(routine, k), text)
     }
 
     /// Returns the script with `text` as the terms of the grouping `name`, as `with` does.
     pub fn with_grouping(&self, alloc: Global, name: &str, text: &str) -> Result<Script, EditFault>
-        ensures script { IfOk result (λ s. IsEdited (source_of self.now) (terms name.now) text.now (source_of s)) }
-        ensures fault { IfErr result (λ f. (f ≡ EditFault.OutOfMemory) ⊎ IsEditFault (source_of self.now) (terms name.now) text.now f) }
-        ensures missing { (f : EditFault) → text_for (source_of self.now).items (terms name.now) ≡ Err f → result ≡ Err f }
+        ensures script { IfOk result (λ s. IsEdited (source_of self.now) (Grouping name.now) text.now (source_of s)) }
+        ensures fault { IfErr result (λ f. (f ≡ EditFault.OutOfMemory) ⊎ IsEditFault (source_of self.now) (Grouping name.now) text.now f) }
+        ensures missing { (f : EditFault) → text_for (source_of self.now).items (Grouping name.now) ≡ Err f → result ≡ Err f }
     {
         self.with(alloc, Part::Grouping(name), text)
     }
 
     fn with_body(&self, alloc: Global, name: &str, text: &str) -> Result<Script, EditFault>
-        ensures script { IfOk result (λ s. IsEdited (source_of self.now) (body name.now) text.now (source_of s)) }
-        ensures fault { IfErr result (λ f. (f ≡ EditFault.OutOfMemory) ⊎ IsEditFault (source_of self.now) (body name.now) text.now f) }
-        ensures missing { (f : EditFault) → text_for (source_of self.now).items (body name.now) ≡ Err f → result ≡ Err f }
+        ensures script { IfOk result (λ s. IsEdited (source_of self.now) (Routine name.now) text.now (source_of s)) }
+        ensures fault { IfErr result (λ f. (f ≡ EditFault.OutOfMemory) ⊎ IsEditFault (source_of self.now) (Routine name.now) text.now f) }
+        ensures missing { (f : EditFault) → text_for (source_of self.now).items (Routine name.now) ≡ Err f → result ≡ Err f }
     {
         let Some(_replaced) = edits::routine_of(&self.items, name) else {
             return Err(EditFault::NoRoutine);
@@ -268,9 +268,9 @@ impl Script {
         k: u64,
         text: &str,
     ) -> Result<Script, EditFault>
-        ensures script { IfOk result (λ s. IsEdited (source_of self.now) (among routine.now k) text.now (source_of s)) }
-        ensures fault { IfErr result (λ f. (f ≡ EditFault.OutOfMemory) ⊎ IsEditFault (source_of self.now) (among routine.now k) text.now f) }
-        ensures missing { (f : EditFault) → text_for (source_of self.now).items (among routine.now k) ≡ Err f → result ≡ Err f }
+        ensures script { IfOk result (λ s. IsEdited (source_of self.now) (Among routine.now k) text.now (source_of s)) }
+        ensures fault { IfErr result (λ f. (f ≡ EditFault.OutOfMemory) ⊎ IsEditFault (source_of self.now) (Among routine.now k) text.now f) }
+        ensures missing { (f : EditFault) → text_for (source_of self.now).items (Among routine.now k) ≡ Err f → result ≡ Err f }
     {
         let Some(body) = edits::routine_of(&self.items, routine) else {
             return Err(EditFault::NoRoutine);
@@ -291,9 +291,9 @@ impl Script {
     }
 
     fn with_terms(&self, alloc: Global, name: &str, text: &str) -> Result<Script, EditFault>
-        ensures script { IfOk result (λ s. IsEdited (source_of self.now) (terms name.now) text.now (source_of s)) }
-        ensures fault { IfErr result (λ f. (f ≡ EditFault.OutOfMemory) ⊎ IsEditFault (source_of self.now) (terms name.now) text.now f) }
-        ensures missing { (f : EditFault) → text_for (source_of self.now).items (terms name.now) ≡ Err f → result ≡ Err f }
+        ensures script { IfOk result (λ s. IsEdited (source_of self.now) (Grouping name.now) text.now (source_of s)) }
+        ensures fault { IfErr result (λ f. (f ≡ EditFault.OutOfMemory) ⊎ IsEditFault (source_of self.now) (Grouping name.now) text.now f) }
+        ensures missing { (f : EditFault) → text_for (source_of self.now).items (Grouping name.now) ≡ Err f → result ≡ Err f }
     {
         let Some(_replaced) = edits::grouping_of(&self.items, name) else {
             return Err(EditFault::NoGrouping);

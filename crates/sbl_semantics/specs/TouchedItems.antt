@@ -63,17 +63,12 @@ item_cmp (Among m k) (Grouping n) = Less
 item_cmp (Grouping m) (Grouping n) = slice_cmp nat_cmp m n
 item_cmp (Grouping m) y = Greater
 
-unfoldable pub touched_items : Source → List ℕ → ℕ → List Part'
-touched_items script word limit = foldr (λ x xs. insert_key item_cmp xs x) [] (map (item_of_touch (names_of script)) (touches_of script word limit))
-
--- ---- names for parts of these definitions, which only the code and proofs use
-
-abbrev pub in_item_order : List Part' → List Part'
-in_item_order xs = foldr (λ x ys. insert_key item_cmp ys x) [] xs
-
--- the items of these touches, by name, in order and each once
 abbrev pub items_of : Names' → List Touch → List Part'
-items_of names ts = in_item_order (map (item_of_touch names) ts)
+items_of names ts = foldr (λ x xs. insert_key item_cmp xs x) [] (map (item_of_touch names) ts)
+
+-- the items that a run of a script on a word, with this limit, touches
+unfoldable pub touched_items : Source → List ℕ → ℕ → List Part'
+touched_items script word limit = items_of (names_of script) (touches_of script word limit)
 
 -- the items that the code's set holds
 abbrev pub items_in : BTreeSet Item → List Part'

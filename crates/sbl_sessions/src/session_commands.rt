@@ -2,7 +2,7 @@
 ghost use Rattle.std.specs.Prelude.{◌≡◌};
 ghost use Rattle.std.specs.Option.{option_map, unwrap_or};
 ghost use Rattle.sbl_bench.specs.Edits as edits;
-ghost use Rattle.sbl_ast.specs.NamedParts.{Among as among};
+ghost use Rattle.sbl_ast.specs.NamedParts.{Among};
 ghost use Rattle.sbl_script.specs.Parts.{view_part};
 ghost use Rattle.sbl_sessions.specs.Commands as spec;
 ghost use Rattle.sbl_sessions.specs.Requests as requests;
@@ -100,7 +100,7 @@ fn part_by<'a>(word: &[u8], argument: &'a str) -> Option<Option<Part<'a>>>
 }
 
 fn among_by(argument: &str) -> Option<Part<'_>>
-    ensures { option_map view_part result ≡ option_map (among (words.command_word argument.now)) (numbers.number_in (words.argument argument.now)) }
+    ensures { option_map view_part result ≡ option_map (Among (words.command_word argument.now)) (numbers.number_in (words.argument argument.now)) }
 {
     let (name, digits) = argument.split_once(' ')?;
     let k = number_in(digits.as_bytes())?;
