@@ -68,8 +68,7 @@ IsUnread w ts end f =
 
 -- f is the fault of a text that begins in state s: as bytes, else as tokens, else in a check of the items that `around` makes of its tree
 abbrev pub IsFaultIn : (w : Text) → Directives → (TreeOf w → List Item) → List ℕ → List ℕ → ScriptFault → Type 0
-IsFaultIn w s around external text f = IsTextFault s text f
-    ⊎ ((ts : List PlacedToken) × HasTokens s text ts × IsUnread w ts (length text) f)
+IsFaultIn w s around external text f = IsTextFault s text f ⊎ ((ts : List PlacedToken) × HasTokens s text ts × IsUnread w ts (length text) f)
     ⊎ ((ts : List PlacedToken) × HasTokens s text ts × (first_left_out ts ≡ None)
     × ((tree : TreeOf w) × IsReadAs w (lexemes ts) tree × (fault_of (around tree) external ≡ Some f)))
 
