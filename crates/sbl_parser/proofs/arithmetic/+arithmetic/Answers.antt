@@ -26,8 +26,8 @@ expression-loop-operator-smaller t_ c = turns.shorter (ahead c.loop-operator.cur
 pub expression-loop-operator-preserved : goal.expression-loop-operator-preserved
 expression-loop-operator-preserved t_ c =
     let first : ahead c.loop-operator.cursor ≡ t.additive c.in-Additive.operator ∷ ahead c.skip.new.self = d.head_of_drop (ahead c.loop-operator.cursor) (ahead c.skip.new.self) (t.additive c.in-Additive.operator) (of_role.as_terminal (ahead c.loop-operator.cursor) (t.additive c.in-Additive.operator) refl (sym c.role.ensures ∙ c.in-Additive.is)) c.skip.ensures in
-    let last : view.NextProductView = (c.in-Additive.operator, view_parts.view_product c.in-Ok.product) in
-    let more : map view_parts.view_next_product c.push.new.self.items ≡ map view_parts.view_next_product c.loop-operator.others.items ++ last ∷ [] = ap (λ (xs : List NextProduct). map view_parts.view_next_product xs) c.in-Ok-push.ensures.items ∙ map_push view_parts.view_next_product c.loop-operator.others.items _ ∙ ap (λ (x : view.NextProductView). map view_parts.view_next_product c.loop-operator.others.items ++ x ∷ []) (views.view_of_next_product (record { operator = c.in-Additive.operator; product = c.in-Ok.product })) in
+    let last : view_parts.NextProductView = (c.in-Additive.operator, view_parts.view_product c.in-Ok.product) in
+    let more : map view_parts.view_next_product c.push.new.self.items ≡ map view_parts.view_next_product c.loop-operator.others.items ++ last ∷ [] = ap (λ (xs : List NextProduct). map view_parts.view_next_product xs) c.in-Ok-push.ensures.items ∙ map_push view_parts.view_next_product c.loop-operator.others.items _ ∙ ap (λ (x : view_parts.NextProductView). map view_parts.view_next_product c.loop-operator.others.items ++ x ∷ []) (views.view_of_next_product (record { operator = c.in-Additive.operator; product = c.in-Ok.product })) in
     record {
       spelled = turns.next_sum (written.spelled_product (view_parts.view_product c.in_ok-first.first)) (map view_parts.view_next_product c.loop-operator.others.items) (map view_parts.view_next_product c.push.new.self.items) last _ (ahead c.loop-operator.cursor) (ahead c.product-in-Additive.new.cursor) c.loop-operator.invariant.spelled (first ∙ ap (λ (r : List Terminal). t.additive c.in-Additive.operator ∷ r) c.in-Ok.ensures.0) more;
       faults = λ k. c.loop-operator.invariant.faults k ∙ d.goes_on (ahead c.loop-operator.cursor) (t.additive c.in-Additive.operator) (ahead c.skip.new.self) (s.sums c.args.depth ∷ k) (s.expression c.args.depth k) c.args.depth first refl (omega arith) ∙ c.in-Ok.ensures.1 (s.sums c.args.depth ∷ k);
@@ -39,8 +39,8 @@ product-loop-operator-smaller t_ c = turns.shorter (ahead c.loop-operator.cursor
 pub product-loop-operator-preserved : goal.product-loop-operator-preserved
 product-loop-operator-preserved t_ c =
     let first : ahead c.loop-operator.cursor ≡ t.multiplicative c.in-Multiplicative.operator ∷ ahead c.skip.new.self = d.head_of_drop (ahead c.loop-operator.cursor) (ahead c.skip.new.self) (t.multiplicative c.in-Multiplicative.operator) (of_role.as_terminal (ahead c.loop-operator.cursor) (t.multiplicative c.in-Multiplicative.operator) refl (sym c.role.ensures ∙ c.in-Multiplicative.is)) c.skip.ensures in
-    let last : view.NextFactorView = (c.in-Multiplicative.operator, view_parts.view_factor c.in-Ok.factor) in
-    let more : map view_parts.view_next_factor c.push.new.self.items ≡ map view_parts.view_next_factor c.loop-operator.others.items ++ last ∷ [] = ap (λ (xs : List NextFactor). map view_parts.view_next_factor xs) c.in-Ok-push.ensures.items ∙ map_push view_parts.view_next_factor c.loop-operator.others.items _ ∙ ap (λ (x : view.NextFactorView). map view_parts.view_next_factor c.loop-operator.others.items ++ x ∷ []) (views.view_of_next_factor (record { operator = c.in-Multiplicative.operator; factor = c.in-Ok.factor })) in
+    let last : view_parts.NextFactorView = (c.in-Multiplicative.operator, view_parts.view_factor c.in-Ok.factor) in
+    let more : map view_parts.view_next_factor c.push.new.self.items ≡ map view_parts.view_next_factor c.loop-operator.others.items ++ last ∷ [] = ap (λ (xs : List NextFactor). map view_parts.view_next_factor xs) c.in-Ok-push.ensures.items ∙ map_push view_parts.view_next_factor c.loop-operator.others.items _ ∙ ap (λ (x : view_parts.NextFactorView). map view_parts.view_next_factor c.loop-operator.others.items ++ x ∷ []) (views.view_of_next_factor (record { operator = c.in-Multiplicative.operator; factor = c.in-Ok.factor })) in
     record {
       spelled = turns.next_scale (written.spelled_factor (view_parts.view_factor _)) (map view_parts.view_next_factor c.loop-operator.others.items) (map view_parts.view_next_factor c.push.new.self.items) last _ (ahead c.loop-operator.cursor) (ahead c.factor-in-Multiplicative.new.cursor) c.loop-operator.invariant.spelled (first ∙ ap (λ (r : List Terminal). t.multiplicative c.in-Multiplicative.operator ∷ r) c.in-Ok.ensures.0) more;
       faults = λ k. c.loop-operator.invariant.faults k ∙ d.goes_on (ahead c.loop-operator.cursor) (t.multiplicative c.in-Multiplicative.operator) (ahead c.skip.new.self) (s.scales c.args.depth ∷ k) (s.factor c.args.depth ∷ s.scales c.args.depth ∷ k) c.args.depth first refl (omega arith) ∙ c.in-Ok.ensures.1 (s.scales c.args.depth ∷ k);

@@ -131,8 +131,8 @@ row-loop-joiner-smaller t_ c = turns.shorter (ahead c.loop-joiner.cursor) (ahead
 pub row-loop-joiner-preserved : goal.row-loop-joiner-preserved
 row-loop-joiner-preserved t_ c =
     let first : ahead c.loop-joiner.cursor ≡ t.joiner c.in-Joiner.joiner ∷ ahead c.skip.new.self = d.head_of_drop (ahead c.loop-joiner.cursor) (ahead c.skip.new.self) (t.joiner c.in-Joiner.joiner) (of_role.as_terminal (ahead c.loop-joiner.cursor) (t.joiner c.in-Joiner.joiner) refl (sym c.role.ensures ∙ c.in-Joiner.is)) c.skip.ensures in
-    let last : view.NextCommandView = (c.in-Joiner.joiner, view.view_command c.in-Ok.command) in
-    let more : map view_parts.view_next_command c.push.new.self.items ≡ map view_parts.view_next_command c.loop-joiner.others.items ++ last ∷ [] = ap (λ (xs : List NextCommand). map view_parts.view_next_command xs) c.in-Ok-push.ensures.items ∙ map_push view_parts.view_next_command c.loop-joiner.others.items _ ∙ ap (λ (x : view.NextCommandView). map view_parts.view_next_command c.loop-joiner.others.items ++ x ∷ []) (views.view_of_next_command (record { joiner = c.in-Joiner.joiner; command = c.in-Ok.command })) in
+    let last : view_parts.NextCommandView = (c.in-Joiner.joiner, view.view_command c.in-Ok.command) in
+    let more : map view_parts.view_next_command c.push.new.self.items ≡ map view_parts.view_next_command c.loop-joiner.others.items ++ last ∷ [] = ap (λ (xs : List NextCommand). map view_parts.view_next_command xs) c.in-Ok-push.ensures.items ∙ map_push view_parts.view_next_command c.loop-joiner.others.items _ ∙ ap (λ (x : view_parts.NextCommandView). map view_parts.view_next_command c.loop-joiner.others.items ++ x ∷ []) (views.view_of_next_command (record { joiner = c.in-Joiner.joiner; command = c.in-Ok.command })) in
     record {
       shallow = c.loop-joiner.invariant.shallow;
       spelled = turns.next_joined (written.spelled_command (view.view_command _)) (map view_parts.view_next_command c.loop-joiner.others.items) (map view_parts.view_next_command c.push.new.self.items) last _ (ahead c.loop-joiner.cursor) (ahead c.command-in-Joiner.new.cursor) c.loop-joiner.invariant.spelled (first ∙ ap (λ (r : List Terminal). t.joiner c.in-Joiner.joiner ∷ r) c.in-Ok.ensures.gives.0) more;
