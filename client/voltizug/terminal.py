@@ -456,7 +456,9 @@ def main(given: Sequence[str]) -> int:
     try:
         found = options.options_of(given)
     except options.Misuse as why:
-        print("snowbench: " + "\n".join([*map(layout.named, why.args), USAGE]), file=sys.stderr)
+        width = os.isatty(2) and os.get_terminal_size(2).columns or sys.maxsize
+        lines = ["snowbench: " + layout.named(why.args[0]), *why.args[1:], USAGE]
+        print(*(part for line in lines for part in layout.broken(line, width)), sep="\n", file=sys.stderr)
         return 2
     files = [found.script, found.words] if found.words else [found.script]
     if found.has_rows or not (os.isatty(0) and os.isatty(1)):
