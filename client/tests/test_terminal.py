@@ -442,6 +442,19 @@ define stem as backwards ( do r do s )
         terminal.type("\x03")
         self.assertIn("stem univers", terminal.type("stem un\t", rb"univers ?$", 3))
 
+    def test_several_tabs_at_once_are_as_one(self):
+        """Among other keys that come at once they are a text. No question takes what is typed after many completions."""
+        terminal = self.begin(words=WORDS + "".join("univers%d\n" % i for i in range(300)))
+        self.assertIn("class glass", terminal.type("class gl\t\t", rb"class glass$", 3))
+        terminal.type("\x03")
+        self.assertRegex(terminal.type("class gl\t\tx\x01echo |\x05|\r"), r"\|class gl\t\tx\|")
+        self.assertIn("class univers", terminal.type("class uni\t\t", rb"class univers$", 3))
+        self.assertIn("universal", terminal.enter("al"))
+        terminal.enter("routine plural", "( true")
+        terminal.send("\t\t")
+        terminal.enter("true )", ".")
+        self.assertIn("plural as ( true\n\t\ttrue )", terminal.enter("script"))
+
     def test_the_pager_says_how_one_goes_on(self):
         terminal = self.begin(lines=6, term="xterm", PAGER="sh -c 'cat; echo $LESSSECURE $LESS'")
         self.assertRegex(terminal.type("stems\r", rb"goes back"), r"university +univers\n1 FRXPs.*q goes back")
