@@ -9,8 +9,8 @@ from .kept import FileState, Kept, is_same, read_file, state_of
 from .places import LARGEST, Places
 from .program import BROKEN, BROKEN_OFF, DONE, ENDED, USUAL_LIMIT, Memory, Moment, Program, Reply
 
-# After so many seconds a file that is not there is gone: no editor is just saving it.
-GONE = 1
+# After so many seconds a file that is not there, or empty, is so: no editor is just saving it. After so many a file that is written in place has all.
+GONE, QUIET = 1, 0.05
 
 
 class Edit(NamedTuple):
@@ -41,13 +41,17 @@ class Stage:
 
     def saved(self) -> Dict[str, FileState]:
         """Returns the files that were saved since they were read, with their states. (An editor may take a file away or empty it for a moment.)"""
-        now = {path: (state_of(path), state) for path, state in dict(self.seen).items()}
-        changed = {path: state for path, (state, before) in now.items() if state and state != before}
-        return {path: state for path, state in changed.items() if state[1] or abs(time.time() - state[0] / 1e9) > 1}
+        found = {path: state for path, before in dict(self.seen).items() for state in [state_of(path)] if state != before}
+        return {path: state for path, state in found.items() if state and (state[1] or age(state) > GONE)}
+
+    def ready(self) -> Dict[str, FileState]:
+        """Returns those of the saved files that are not being written: most editors write another file, which then takes the name."""
+        seen = dict(self.seen)
+        return {path: state for path, state in self.saved().items() if not seen[path] or seen[path][2] != state[2] or age(state) > QUIET}
 
     def news(self) -> Dict[str, FileState]:
         """Returns what is to be said of files: those that were saved, those that are gone (they have no state), and those that are there again."""
-        found = self.saved()
+        found = self.ready()
         for path, before in dict(self.seen).items():
             state = state_of(path)
             if state:
@@ -340,6 +344,10 @@ class Bench(Stage):
             return reply
         except OSError:
             return Reply(DONE, ["no 57 NoFile"], [])
+
+
+def age(state: Tuple[int, int, int]) -> float:
+    return abs(time.time() - state[0] / 1e9)
 
 
 def pairs_of(*replies: Reply) -> Tuple[Any, ...]:

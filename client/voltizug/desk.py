@@ -136,7 +136,7 @@ class Desk:
             elif path in self.bench.gone:
                 self.screen.say("%s is there again." % short(path))
                 self.bench.gone.discard(path)
-        saved = self.bench.saved()
+        saved = self.bench.ready()
         if saved and self.bench.is_waiting:
             self.open()
         elif self.bench.script in saved:
