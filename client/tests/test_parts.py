@@ -172,7 +172,7 @@ class Others(Case):
         """As a Cyrillic a in the place of a Latin one, and a c with another sign over it."""
         found = rows.read("places", ["entry,stem,1,аcč,10,17,1,11", "entry,stem,1,bcdefghi,20,30,1,21"])
         places = Places("my.sbl", b"", b"", found, [])
-        shown = lints.strange_strings(places, [rows.Outcome("a", "stem", "a")], [])
+        shown = lints.strange_strings(lints.Script(places), [rows.Outcome("a", "stem", "a")])
         what = "'%s' has %s, which no word has and no command puts in"
         self.assertEqual(list(shown), [
             (10, what % ("аcč", "c, č (U+010D) and а (U+0430)")), (20, what % ("bcdefghi", "b, c, d, e, f and 3 more")),

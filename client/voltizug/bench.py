@@ -75,7 +75,6 @@ class Stage:
         return rows.read(line.partition(" ")[0], self.known(line) or [])
 
     def places(self) -> Places:
-        """Returns where everything is in the current text, and in SCRIPT."""
         text, known = self.program.now.text, self.known_places
         if known is None or known.text is not text or known.file_text != self.file_text:
             tokens = self.known("tokens") if len(text) <= LARGEST else None
@@ -118,7 +117,6 @@ class Bench(Stage):
         return reply
 
     def note_file(self) -> None:
-        """Notes that SCRIPT has the current text."""
         self.file_text, self.is_older = self.program.now.text, False
 
     def look(self, *paths: str) -> None:
@@ -317,7 +315,6 @@ class Bench(Stage):
         ) if is_so), "")
 
     def write(self, command: str, path: str) -> Reply:
-        """Has the program write the script (`save`) or the stems (`approve`) to a file."""
         is_own = self.is_script(path)
         reply = self.write_anew() if is_own and not os.path.exists(path) else self.ask("%s %s" % (command, self.script if is_own else path))
         if reply.is_done:

@@ -42,7 +42,7 @@ class Desk:
         # The files and what they had; whether `work` has waited for one without its fault; the status with which it ends.
         self.paths = [path for path in (bench.script, bench.words) if path]
         self.files: Sequence[Optional[bytes]] = ()
-        self.has_waited, self.status = False, 1
+        self.has_waited, self.waits_for, self.status = False, "", 1
         bench.program.on_long, self.editor.on_interrupt, bench.on_restart = self.tell_long, bench.program.break_off, self.tell_restart
 
     def correction(self, path: str) -> str:
@@ -89,7 +89,8 @@ class Desk:
         verbs = ("has", "it was") if len(self.paths) == 1 else ("have", "they were")
         say("%s %s not changed since %s read." % (in_words(self.paths, "and"), *verbs) if is_same else "")
         ends = "quit or Ctrl-D ends%s." % (", for a start with --external" if any("use --external" in line for line in reply.said) else "")
-        say("%s %s" % (self.correction(name) if code else "Enter reads the files again.", ends))
+        self.waits_for = "%s %s" % (self.correction(name) if code else "Enter reads the files again.", ends)
+        say(self.waits_for)
         return True
 
     def show_figures(self, reply: Reply) -> None:
@@ -145,7 +146,6 @@ class Desk:
             self.screen.say(self.note_words())
 
     def note_words(self) -> str:
-        """Returns the sentence on words that were saved since they were read; nothing if they were not."""
         path = self.bench.words or ""
         if path in self.bench.saved():
             self.bench.look(path)
@@ -183,7 +183,6 @@ class Desk:
         self.screen.say(why + " is started again with the current script.")
 
     def is_done(self, reply: Reply, line: str) -> bool:
-        """Whether a command was done; otherwise says why not."""
         if self.settle(reply) and reply.refusal():
             self.refuse(reply, [line])
         return reply.is_done

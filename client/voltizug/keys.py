@@ -51,11 +51,10 @@ def set_keys(settings: List[Any], is_needed: bool = False) -> None:
         try:
             return termios.tcsetattr(0, termios.TCSANOW, settings)
         except termios.error as why:
-            if why.args[0] == errno.EINTR:
-                continue
-            if is_needed:
+            if why.args[0] != errno.EINTR and is_needed:
                 raise Hangup from None
-            return None
+            if why.args[0] != errno.EINTR:
+                return None
 
 
 def with_interrupt(settings: List[Any], character: bytes) -> List[Any]:
@@ -210,7 +209,6 @@ class Editor:
 
     @contextlib.contextmanager
     def lent(self) -> Iterator[None]:
-        """Lends the terminal to another process, a pager."""
         set_keys(self.base)
         try:
             yield
@@ -225,12 +223,9 @@ class Editor:
         entry = "\n".join(lines)
         if not entry.strip():
             return
-        try:
+        # (readline knows no letters that the locale has not)
+        with contextlib.suppress(OSError, UnicodeError):
             readline.add_history(entry)
-        except UnicodeError:
-            # (readline takes the bytes of a line, and in a locale without these letters knows no text)
-            readline.add_history(entry.encode("utf-8", "surrogateescape").decode("ascii", "surrogateescape"))
-        with contextlib.suppress(OSError):
             readline.append_history_file(1, self.history)
 
     def open_history(self) -> None:

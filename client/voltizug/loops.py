@@ -74,10 +74,9 @@ def turning(word: str, events: Sequence[Any], bench: Bench) -> str:
         may_be = " It may be %s." % in_words(spots, "or") if spots else ""
         limit = int(bench.program.now.limit)
         return "The run of {} ends in {}, which goes round, or it needs more than {:,} steps.{}".format(word, name, limit, may_be)
-    does = ": it %s again and again, %s" % (in_words(turn.does, "and", 3), "{:,} times and more".format(turn.count)) if turn.does else ""
-    if len(spots) == 1:
-        return "In the run of %s %s%s in %s goes round%s." % (word, spots[0], "," * bool(places.note), name, does)
-    return "In the run of %s %s goes round%s.%s" % (word, name, does, " It is %s." % in_words(spots, "or") if spots else "")
+    does = ": it {} again and again, {:,} times and more".format(in_words(turn.does, "and", 3), turn.count) if turn.does else ""
+    what = "%s%s in " % (in_words(spots, "or"), "," * bool(places.note)) if spots else ""
+    return "In the run of %s %s%s goes round%s." % (word, what, name, does)
 
 
 def ending(word: str, events: Sequence[Any], bench: Bench) -> str:
