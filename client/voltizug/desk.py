@@ -99,8 +99,7 @@ class Desk:
         say(*self.new_lints())
         refused = [row for row in bench.outcomes() if row.kind == "refused"] if figures["refused"] else []
         for row in refused[:1]:
-            first = "The first refused word is %s (%s)." % (words.in_quotes(row.word), row.stem)
-            say(('%s "why %s" shows where its run ends. %s' % (first, short(row.word), self.turning(row.word))).rstrip())
+            say("The first refused word is %s (%s). %s" % (words.in_quotes(row.word), row.stem, loops.ending(row.word, bench)))
         all_left = bench.kept.left()
         for left in [left for left in all_left if left.block]:
             self.editor.remember(*left.block)
@@ -259,7 +258,7 @@ class Desk:
         own = self.own if edit.changes else []
         refused = [row for row in own if row.kind == "changed" and row.new_kind == "refused"]
         worst = next((row.word for row in refused if row.new in loops.NAMES), refused[0].word if refused else "")
-        tail = [*(self.new_lints() if is_reload or edit.command in (*BLOCKS, *OPEN_BLOCKS) else []), self.ending(worst) if refused else ""]
+        tail = [*(self.new_lints() if is_reload or edit.command in (*BLOCKS, *OPEN_BLOCKS) else []), loops.ending(worst, self.bench) if refused else ""]
         limit = counted(int(self.bench.program.now.limit), "step")
         note = words.NOTES.get(edit.note, "").format(script=short(self.bench.script), limit=limit)
         last = self.screen.broken([line for line in [*tail, note, self.note_words(), layout.families_line(edit.pairs), layout.summary(edit)] if line])
@@ -271,10 +270,3 @@ class Desk:
 
     def added(self, changes: Sequence[Any]) -> Dict[str, rows.Outcome]:
         return self.bench.by_word() if any(row.kind == "added" for row in changes) else {}
-
-    def ending(self, word: str) -> str:
-        """Returns the sentence on what goes round in a refused run, or else on where it ends."""
-        return self.turning(word) or loops.ending(word, self.bench.read("events " + word), self.bench)
-
-    def turning(self, word: str) -> str:
-        return loops.turning(word, self.bench.read("events " + word), self.bench)
