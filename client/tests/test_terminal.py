@@ -276,6 +276,21 @@ define stem as backwards ( do r do s )
         self.assertNotIn("No line has two", terminal.enter("families fam"))
         self.assertIn("families: understemmed 0 -> 2 of 2 pairs (100.0 %), ", terminal.enter("routine plural", "true", "."))
 
+    def test_what_a_command_says_without_more_and_with_too_much(self):
+        terminal = self.begin()
+        self.assertEqual(terminal.enter("limit"), "Each run may use 100,000 steps. limit N sets another number.")
+        self.assertEqual(terminal.enter("words now"), "words takes nothing after it.")
+        self.assertEqual(terminal.enter("trace news").split("\n")[0], "  routines   ending, plural, stem")
+        self.assertEqual(terminal.enter("x" * 65537), "A line may have 65,536 bytes at most. Nothing was done.")
+        terminal.enter("limit 1")
+        said = "The run of new and of 7 more is refused, so there is no stem to write: why new shows where. Nothing was written."
+        self.assertEqual(terminal.enter("approve stems"), said)
+
+    def test_options_for_programs(self):
+        terminal = self.terminal(self.room(my_sbl=AUTHOR), "--stop", "x", "my.sbl")
+        self.assertIn("snowbench: --from and --stop are for programs: they need --rows at a terminal\nusage: ", terminal.got(rb"SCRIPT \[WORDS\]"))
+        self.assertEqual(terminal.ended(), 2)
+
     def test_several_words_are_asked_about(self):
         terminal = self.begin()
         terminal.type("add hundo kato\r", rb"nothing: $")
@@ -436,7 +451,8 @@ define stem as backwards ( do r do s )
         terminal.type("\x03")
         self.assertIn("define ending", terminal.type("define end\t", rb"ending ?$", 3))
         terminal.type("\x03")
-        self.assertIn("ity", terminal.type("uses ending 1 it\t", rb"ity ?$", 3))
+        self.assertIn("uses ending 1", terminal.type("uses ending \t", rb"1 ?$", 3))
+        self.assertIn("ity", terminal.type(" it\t", rb"ity ?$", 3))
         terminal.type("\x03")
         self.assertIn("class glass", terminal.type("class gl\t", rb"class glass$", 3))
         terminal.type("\x03")
@@ -646,6 +662,7 @@ class Traps(Case):
         self.assertIn("closed (2 added words): rescue brings them back", again.got())
         self.assertEqual(again.enter("rescue").split("\n"), ["hundo is added: hundo", "kato is added: kato"])
         self.assertEqual(again.enter("rescue"), "No typed edits were left behind.")
+        self.assertEqual(again.enter("rescue drop"), "No typed edits were left behind.")
         again.enter("routine plural", "true", ".")
         os.kill(again.child, signal.SIGKILL)
         self.assertEqual(again.ended(), -signal.SIGKILL)

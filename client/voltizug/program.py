@@ -56,10 +56,9 @@ class Memory:
         os.close(self.number)
 
     def fill(self, data: bytes) -> None:
-        os.ftruncate(self.number, 0)
-        self.data, at = data, 0
-        while at < len(data):
-            at += os.pwrite(self.number, data[at:], at)
+        self.data = data
+        with open(self.path, "wb") as file:
+            file.write(data)
 
 
 class Program:

@@ -23,7 +23,7 @@ TABLE: Dict[str, Dict[str, str]] = {
     "stats": {kind: "count" for kind in "words refused classes alone largest unchanged runs".split()},
     "places": {
         "routine": "name" + PLACE, "grouping": "name" + PLACE, "among": "name k" + PLACE, "entry": "name k string" + PLACE,
-        "name": "name role" + PLACE, "test": "name n" + PLACE,
+        "name": "name role" + PLACE,
     },
     "faults": {"fault": "code name" + PLACE + " sentence"},
     "history": {"done": "command *rest", "undone": "command *rest"},

@@ -76,12 +76,10 @@ class Terminal(Desk):
             self.read_block("%s %s" % ("routine" if definition[2] else "grouping", definition[1]), line)
         elif command in ("save", "approve"):
             self.write(command, argument.strip())
-        elif not hasattr(self, "do_" + command):
-            self.ask(line)
-        elif argument and not COMMANDS[command].takes:
-            self.screen.say(words.unknown(line, self.bench))
-        else:
+        elif hasattr(self, "do_" + command):
             getattr(self, "do_" + command)(argument)
+        else:
+            self.ask(line)
         return True
 
     def ask(self, line: str) -> None:
@@ -269,9 +267,10 @@ class Terminal(Desk):
         if self.is_done(self.bench.ask("append " + path if path != self.bench.words else "append"), "append " + path):
             self.screen.say("%s now at the end of %s." % (counted(len(kept.read_lines(path)) - before, "word is", "words are"), short(path)))
 
-    def do_words(self, _: str) -> None:
-        before, doubt = self.bench.by_word(), self.unkept_words(", words again drops {}") if self.bench.words else ""
-        if self.is_sure("words", doubt) and self.is_done(self.bench.ask("words"), "words"):
+    def do_words(self, argument: str) -> None:
+        before, line = self.bench.by_word(), "words" + " " * bool(argument) + argument
+        doubt = self.unkept_words(", words again drops {}") if self.bench.words and not argument else ""
+        if self.is_sure(line, doubt) and self.is_done(self.bench.ask(line), line):
             self.has_old_words = False
             self.warn(self.bench.words)
             now = self.bench.by_word()
@@ -301,7 +300,9 @@ class Terminal(Desk):
         command, _, name = line.partition(" ")
         count = self.bench.places().count(name) if command == "among" and name else 0
         if count > 1 and not self.editor.pending:
-            number = self.asked(words.which_among(name, self.bench))
+            places = self.bench.places()
+            found = ["%s (%s)" % (k, places.of(name, k)) for other, k in places.amongs if other == name]
+            number = self.asked("Which among of %s, %s? " % (short(name), in_words(found, "or")))
             return number and line + " " + number
         return line + " 1" * (count == 1)
 
@@ -426,22 +427,19 @@ class Terminal(Desk):
 
 
 def main(given: Sequence[str]) -> int:
+    is_terminal = os.isatty(0) and os.isatty(1)
     try:
-        found = options.options_of(given)
+        found = options.options_of(given, is_terminal)
     except options.Misuse as why:
         width = os.isatty(2) and os.get_terminal_size(2).columns or sys.maxsize
         lines = ["snowbench: " + layout.named(why.args[0]), *why.args[1:], USAGE]
         print(*(part for line in lines for part in layout.broken(line, width)), sep="\n", file=sys.stderr)
         return 2
     files = [found.script, found.words] if found.words else [found.script]
-    if found.has_rows or not (os.isatty(0) and os.isatty(1)):
+    if found.has_rows or not is_terminal:
         said = [] if found.has_rows else warn.warnings_on(*files)
         sys.stderr.buffer.write("".join(line + "\n" for line in said).encode("utf-8", "replace"))
         sys.stderr.flush()
         os.execv(found.program, [found.program, "work", *found.passed, "--", *files])
-    for option in ("--from", "--stop"):
-        if option in found.passed:
-            print("snowbench: %s is for programs: at a terminal it needs --rows" % option, file=sys.stderr)
-            return 2
     command = [found.program, "work", "--text", *(word for word in found.passed if word != "--text")]
     return Terminal(Bench(command, found.script, found.words, kept.Kept(kept.home(), found.script)), found).run()

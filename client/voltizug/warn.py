@@ -2,7 +2,7 @@
 import re
 import sys
 import unicodedata
-from typing import Any, Callable, List, Optional, Sequence, Set, Tuple
+from typing import Any, Callable, List, Optional, Sequence, Tuple
 
 from .kept import read_file
 from .layout import named
@@ -65,14 +65,10 @@ def on_several(name: str, path: str, text: str) -> List[str]:
 
 
 def on_repeats(name: str, path: str, text: str) -> List[str]:
-    there, found = set(), []  # type: Set[str], List[int]
-    for number, line in enumerate(text.split("\n"), 1):
-        if line in there:
-            found.append(number)
-        elif line:
-            there.add(line)
+    lines = list(enumerate(text.split("\n"), 1))
+    first = {line: number for number, line in reversed(lines)}
     then = ". It counts once, and approve writes one stem for it. To take repeats away: awk '!there[$0]++' {file} > NEW"
-    return on_numbers(name, path, found, "a word that is there already", then)
+    return on_numbers(name, path, [number for number, line in lines if line and first[line] < number], "a word that is there already", then)
 
 
 def on_whole(path: str, data: bytes) -> List[str]:

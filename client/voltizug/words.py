@@ -303,12 +303,6 @@ def early(line: str, bench: Bench) -> str:
     return refused(code, line, bench) if code in (45, 46, 52, 53) else ""
 
 
-def which_among(name: str, bench: Stage) -> str:
-    places = bench.places()
-    found = [(k, places.of(name, k)) for other, k in places.amongs if other == name]
-    return "Which among of %s, %s? " % (short(name), in_words(["%s (%s)" % each if each[1] else each[0] for each in found], "or"))
-
-
 def may_not(why: str, command: str, path: str, then: str = "") -> str:
     """Returns why a command does not write to a file, by its key in MAY_NOT."""
     to, folder = "save to %s file" if command == "save" else "name %s file", os.path.dirname(path) or "."
