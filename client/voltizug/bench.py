@@ -1,6 +1,6 @@
 """What a face asks: edits and what they change, places, and files. It holds the program, keeps no history of its own, and makes no sentence."""
+import contextlib
 import os
-import tempfile
 import time
 from typing import Any, Callable, Dict, List, NamedTuple, Optional, Sequence, Set, Tuple
 
@@ -329,18 +329,10 @@ class Bench(Stage):
         return reply
 
     def write_anew(self) -> Reply:
-        """Writes SCRIPT, which is gone. (The program overwrites only what it has read: so it writes another file, which becomes SCRIPT.)"""
-        target = os.path.realpath(self.script)
-        try:
-            with tempfile.TemporaryDirectory(dir=os.path.dirname(target)) as room:
-                new = os.path.join(room, "new")
-                reply = self.ask("save " + new)
-                if reply.is_done:
-                    os.replace(new, target)
-                    self.program.ask_each([[self.program.reload]], is_deaf=True)
-            return reply
-        except OSError:
-            return Reply(DONE, ["no 57 NoFile"], [])
+        """Writes SCRIPT, which is gone. (The program overwrites only what it has read: so that is there again first.)"""
+        with contextlib.suppress(OSError), open(os.path.realpath(self.script), "xb") as file:
+            file.write(self.refused_text or self.file_text or b"")
+        return self.ask("save " + self.script)
 
 
 def age(state: Tuple[int, int, int]) -> float:
