@@ -78,11 +78,10 @@ class Desk:
         if code == 44 or code in OF_WORDS and warned != 1:
             say(OF_WORDS[code].format(name=short(name), quoted=words.in_shell(name)), "This keeps work from starting. The other warnings do not." * (warned > 1))
         if not reply.said:
-            status = bench.program.stop()
-            say("The program ended at the start, with status %s." % status if reply.state != DONE else words.SENTENCES[49])
-        swapped = self.swapped() if 0 < code < LEAST else ""
-        say("%s. The script comes first: %s work SCRIPT WORDS" % (swapped, CALLED) if swapped else "")
-        can_wait = (0 < code < LEAST or code in OF_WORDS) and not swapped and all(map(os.path.isfile, self.paths))
+            say(words.SENTENCES[49] if reply.state == DONE else "The program ended at the start, with status %s." % bench.program.stop())
+        is_swapped = 0 < code < LEAST and self.looks_swapped()
+        say("%s looks like a script. The script comes first: %s work SCRIPT WORDS" % (short(bench.words or ""), CALLED) if is_swapped else "")
+        can_wait = (0 < code < LEAST or code in OF_WORDS) and not is_swapped and all(map(os.path.isfile, self.paths))
         if not can_wait and not self.has_waited:
             return False
         self.has_waited = True
@@ -117,14 +116,6 @@ class Desk:
 
     def looks_swapped(self) -> bool:
         return [b"externals" in (text or b"")[:1048576] for text in self.files] == [False, True]
-
-    def swapped(self) -> str:
-        """Returns the sentence on a list of words in the place of the script, if it looks so."""
-        if self.looks_swapped():
-            return "%s looks like a script" % short(self.bench.words or "")
-        text = (self.files[0] or b"")[:65536]
-        has_words = text.count(b"\n") > 2 and all(len(line.split()) <= 1 for line in text.split(b"\n")) and b"(" not in text
-        return "%s looks like a list of words" % short(self.bench.script) if has_words else ""
 
     def show_saved(self) -> None:
         """Reads again what was saved, and says which files are gone, or there again."""
@@ -169,17 +160,15 @@ class Desk:
         if reply.state != DONE or reply.refusal() == BROKEN_OFF:
             # (Ctrl-C may have come again, and this is to be seen)
             self.editor.is_interrupted = False
-        if reply.state != DONE:
-            done = "The last command was not done: type it again." if reply.state == ENDED else "It was broken off. Nothing changed."
-            self.screen.say(done + " For undo the edits since the mark are one now.")
+        self.screen.say("The last command was not done: type it again." * (reply.state == ENDED))
         return reply.state == DONE
 
     def tell_restart(self, reply: Reply) -> None:
         self.editor.is_interrupted = False
         status = self.bench.program.stop() or 0
         how = ", by signal %d" % -status if status < 0 else " with status %s" % status
-        why = "The program was ended from outside%s. It" % how if reply.state == ENDED else "Breaking off: the program"
-        self.screen.say(why + " is started again with the current script.")
+        why = "The program was ended from outside%s." % how if reply.state == ENDED else "It was broken off."
+        self.screen.say(why + " The program is started again with the current script: for undo the edits since the mark are one now.")
 
     def is_done(self, reply: Reply, line: str) -> bool:
         if self.settle(reply) and reply.refusal():

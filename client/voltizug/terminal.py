@@ -234,9 +234,7 @@ class Terminal(Desk):
         if path and not self.may_write(line, path):
             return
         stems, comments, reply = kept.read_lines(path), self.comments(path), self.bench.write(command, path)
-        if command == "save" and reply.state != DONE and kept.read_file(path) == self.bench.program.now.text:
-            self.screen.say("%s has the script now." % name)
-        elif self.is_done(reply, line) and command == "approve":
+        if self.is_done(reply, line) and command == "approve":
             now = kept.read_lines(path)
             others = " %s other than before." % counted(sum(map(ne, stems, now)), "stem is", "stems are")
             self.screen.say("The stems are in %s." % name + others * (0 < len(stems) == len(now)), self.unkept_words())
