@@ -197,21 +197,18 @@ class Terminal(Desk):
 
     def do_mark(self, path: str) -> None:
         """Sets the mark, also by stems of fewer words: they are of the first ones, and the others count as they are."""
-        stems, outcomes = kept.read_lines(path), self.bench.outcomes()
-        new, whole, said = outcomes[len(stems) :] if stems else [], path, []  # type: List[rows.Outcome], str, List[str]
+        stems, outcomes, line = kept.read_lines(path), self.bench.outcomes(), ("mark " + path).rstrip()
+        new, whole, said = outcomes[len(stems) :] if stems else [], path, ""
+        others = sum(stem != encoded(row.stem) for stem, row in zip(stems, outcomes))
+        doubt = "Most lines of %s are other stems. It needs the stems alone, one on a line, in the order of the words: the same line again takes it." % short(path)
+        if not self.is_sure(line, doubt if 2 * others > len(stems) <= len(outcomes) else ""):
+            return
         if new and all(row.kind == "stem" for row in new):
-            others = sum(line != encoded(row.stem) for line, row in zip(stems, outcomes))
-            doubt = "Most lines of %s are no stems of the first words. The mark stays: the same line again takes them." % short(path)
-            if 2 * others > len(stems) and not self.is_sure("mark " + path, doubt):
-                return
             whole = self.bench.kept.keep("stems", b"\n".join([*stems, *(encoded(row.stem) for row in new)]))
-            size = counted(len(outcomes), "word")
-            said = ["%s has %s, and there are %s: the mark has the others as they are now." % (short(path), counted(len(stems), "line"), size)]
-        if self.is_done(self.bench.ask("mark " + whole if path else "mark"), "mark " + path):
-            figures, changed = layout.figures(self.bench.changes), sum(row.kind == "changed" for row in self.bench.changes)
-            doubt = "Most stems differ. %s needs the stems alone, one on a line, in the order of the words, as approve writes them." % short(path)
-            said += [doubt] * (2 * changed > self.bench.size) + [figures] if path else ["The mark is set: changes are counted from here."]
-            self.screen.say(*said)
+            sizes = short(path), counted(len(stems), "line"), counted(len(outcomes), "word")
+            said = "%s has %s, and there are %s: the mark has the others as they are now." % sizes
+        if self.is_done(self.bench.ask(("mark " + whole).rstrip()), line):
+            self.screen.say(said, layout.figures(self.bench.changes) if path else "The mark is set: changes are counted from here.")
 
     def do_add(self, text: str) -> None:
         parts, reply = text.split(), "one"
