@@ -36,8 +36,7 @@ def usual_program() -> str:
     return os.environ.get("SNOWBENCH_PROGRAM") or os.path.join(top, "dist", "snowbench-x86_64-linux")
 
 
-def options_of(given: Sequence[str]) -> Options:
-    """Returns the options of a command line, or raises Misuse."""
+def options_of(given: Sequence[str], is_terminal: bool = False) -> Options:
     try:
         pairs, files = getopt.gnu_getopt(list(given), "", [*(name[2:] for name in FLAGS), *(name[2:] + "=" for name in VALUES)])
     except getopt.GetoptError as why:
@@ -51,6 +50,7 @@ def options_of(given: Sequence[str]) -> Options:
     for is_wrong, why in (
         (not re.fullmatch(r"[A-Za-z][A-Za-z0-9_]*", external), "--external takes the name of an external, and %s is not a name" % external),
         (color not in ("auto", "always", "never"), "--color takes auto, always or never, and not %s" % color),
+        (is_terminal and "--rows" not in found and {"--from", "--stop"} & found.keys(), "--from and --stop are for programs: they need --rows at a terminal"),
         (not files, "work needs a script"),
         (len(files) > 2, "work takes a script and a list of words, and no third file: %s. %s" % ("".join(files[2:3]), THIRD)),
         ("-" in files and not os.path.exists("-"), "work reads a script and words from files, and there is no file -. " + COMMANDS_COME),

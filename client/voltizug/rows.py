@@ -23,7 +23,7 @@ TABLE: Dict[str, Dict[str, str]] = {
     "stats": {kind: "count" for kind in "words refused classes alone largest unchanged runs".split()},
     "places": {
         "routine": "name" + PLACE, "grouping": "name" + PLACE, "among": "name k" + PLACE, "entry": "name k string" + PLACE,
-        "name": "name role" + PLACE, "test": "name n" + PLACE,
+        "name": "name role" + PLACE,
     },
     "faults": {"fault": "code name" + PLACE + " sentence"},
     "history": {"done": "command *rest", "undone": "command *rest"},
@@ -77,7 +77,6 @@ def between(before: List[str], after: List[str]) -> List[Any]:
 
 
 def names_of(row: Any) -> List[str]:
-    """Returns the words and stems of a row of `changes`."""
     fields = (row.word, row.old, row.new) if row.kind == "changed" else row[1:]
     return [name for field in fields for name in ([field] if isinstance(field, str) else field)]
 

@@ -2,7 +2,7 @@
 import re
 import sys
 import unicodedata
-from typing import Any, Callable, List, Optional, Sequence, Set, Tuple
+from typing import Any, Callable, List, Optional, Sequence, Tuple
 
 from .kept import read_file
 from .layout import named
@@ -52,7 +52,6 @@ def on_numbers(name: str, path: str, found: Sequence[int], what: str, then: str)
 
 
 def on_several(name: str, path: str, text: str) -> List[str]:
-    """Returns the warnings on lines with several words, as in a table or a running text."""
     lines, said = [line.strip() for line in text.split("\n")], []  # type: List[str], List[str]
     for sign, what, command in BETWEEN:
         rows = [line.split(sign.strip(" ") or None) for line in lines if sign in line]
@@ -66,15 +65,10 @@ def on_several(name: str, path: str, text: str) -> List[str]:
 
 
 def on_repeats(name: str, path: str, text: str) -> List[str]:
-    """Returns the warning on words that are there already."""
-    there, found = set(), []  # type: Set[str], List[int]
-    for number, line in enumerate(text.split("\n"), 1):
-        if line in there:
-            found.append(number)
-        elif line:
-            there.add(line)
+    lines = list(enumerate(text.split("\n"), 1))
+    first = {line: number for number, line in reversed(lines)}
     then = ". It counts once, and approve writes one stem for it. To take repeats away: awk '!there[$0]++' {file} > NEW"
-    return on_numbers(name, path, found, "a word that is there already", then)
+    return on_numbers(name, path, [number for number, line in lines if line and first[line] < number], "a word that is there already", then)
 
 
 def on_whole(path: str, data: bytes) -> List[str]:
