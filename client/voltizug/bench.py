@@ -7,7 +7,7 @@ from typing import Any, Callable, Dict, List, NamedTuple, Optional, Sequence, Se
 from . import rows
 from .kept import FileState, Kept, is_same, read_file, state_of
 from .places import LARGEST, Places
-from .program import BROKEN, BROKEN_OFF, DONE, ENDED, USUAL_LIMIT, Memory, Moment, Program, Reply
+from .program import BROKEN, BROKEN_OFF, DONE, ENDED, USUAL_LIMIT, Moment, Program, Reply
 
 # After so many seconds a file that is not there, or empty, is so: no editor is just saving it. After so many a file that is written in place has all.
 GONE, QUIET = 1, 0.05
@@ -162,13 +162,8 @@ class Bench(Stage):
         """Returns the tokens of a file, whose commands may have faults. If the program is not begun, another one is asked."""
         if not self.is_waiting:
             return rows.tokens(self.known("tokens " + path) or [])
-        least = Memory(b"externals ( stem )\ndefine stem as true\n")
-        other = Program([self.program.command[0], "work", "--text"], least.path, None, "", self.program.bell)
-        try:
-            other.begin([], least.path)
-            reply = other.ask(["tokens " + path])
-        finally:
-            other.stop()
+        command = [self.program.command[0], "work", "--text"]
+        reply = self.program.beside(command, b"externals ( stem )\ndefine stem as true\n", ["tokens " + path])[0]
         return rows.tokens(reply.lines) if reply.is_done else []
 
     def note(self, line: str, reply: Reply) -> None:
