@@ -1,11 +1,10 @@
 """What a face asks: edits and what they change, places, and files. It holds the program, keeps no history of its own, and makes no sentence."""
-import contextlib
 import os
 import time
 from typing import Any, Callable, Dict, List, NamedTuple, Optional, Sequence, Set, Tuple
 
 from . import rows
-from .kept import FileState, Kept, is_same, read_file, state_of
+from .kept import FileState, Kept, is_same, read_file, state_of, write_file
 from .places import LARGEST, Places
 from .program import BROKEN, BROKEN_OFF, DONE, ENDED, USUAL_LIMIT, Moment, Program, Reply
 
@@ -311,7 +310,10 @@ class Bench(Stage):
 
     def write(self, command: str, path: str) -> Reply:
         is_own = self.is_script(path)
-        reply = self.write_anew() if is_own and not os.path.exists(path) else self.ask("%s %s" % (command, self.script if is_own else path))
+        if is_own and not os.path.exists(path):
+            # (the program overwrites only what it has read: so that is there again first)
+            write_file(self.script, self.refused_text or self.file_text or b"")
+        reply = self.ask("%s %s" % (command, self.script if is_own else path))
         if reply.is_done:
             self.written[os.path.realpath(path)] = state_of(path)
             if is_own:
@@ -322,12 +324,6 @@ class Bench(Stage):
                 self.note_file()
             self.keep()
         return reply
-
-    def write_anew(self) -> Reply:
-        """Writes SCRIPT, which is gone. (The program overwrites only what it has read: so that is there again first.)"""
-        with contextlib.suppress(OSError), open(os.path.realpath(self.script), "xb") as file:
-            file.write(self.refused_text or self.file_text or b"")
-        return self.ask("save " + self.script)
 
 
 def age(state: Tuple[int, int, int]) -> float:

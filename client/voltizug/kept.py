@@ -109,6 +109,20 @@ def read_file(path: Optional[str]) -> Optional[bytes]:
     return None
 
 
+def write_file(path: str, data: bytes) -> bool:
+    """Writes a file; returns whether it did. If that fails, a file that is there has its former text."""
+    target = os.path.realpath(path)
+    with contextlib.suppress(OSError), tempfile.TemporaryDirectory(dir=os.path.dirname(target)) as room:
+        new = os.path.join(room, "new")
+        with open(new, "wb") as file:
+            file.write(data)
+        if os.path.exists(target):
+            shutil.copymode(target, new)
+        os.replace(new, target)
+        return True
+    return False
+
+
 def read_lines(path: Optional[str]) -> List[bytes]:
     return (read_file(path) or b"").splitlines()
 

@@ -2,10 +2,8 @@
 import contextlib
 import os
 import shlex
-import shutil
 import subprocess
 import sys
-import tempfile
 from typing import List, Sequence
 
 from . import layout
@@ -66,17 +64,3 @@ class Screen:
                 process.communicate("".join(line + "\n" for line in lines).encode("utf-8", "replace"))
             process.wait()
         return True
-
-
-def to_file(path: str, lines: Sequence[str]) -> bool:
-    """Writes a report to a file; returns whether it did. If that fails, a file that is there has its former text."""
-    target = os.path.realpath(path)
-    with contextlib.suppress(OSError), tempfile.TemporaryDirectory(dir=os.path.dirname(target)) as room:
-        new = os.path.join(room, "new")
-        with open(new, "wb") as file:
-            file.write("".join(line + "\n" for line in lines).encode("utf-8", "surrogateescape"))
-        if os.path.exists(target):
-            shutil.copymode(target, new)
-        os.replace(new, target)
-        return True
-    return False
