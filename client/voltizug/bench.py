@@ -60,13 +60,12 @@ class Stage:
                 found[path] = None
         return found
 
-    def settled(self, reply: Reply) -> Reply:
-        """Returns the reply after what has to be done if the program is gone."""
-        return reply
+    def ask(self, *lines: str) -> Reply:
+        return self.program.ask(lines)
 
     def known(self, line: str) -> Optional[List[str]]:
-        """Asks for a report: returns its lines, or nothing if it is refused. If it is broken off meanwhile, the program begins again."""
-        reply = self.settled(self.program.ask([line]))
+        """Asks for a report: returns its lines, or nothing if it is refused."""
+        reply = self.ask(line)
         return reply.lines if reply.is_done else None
 
     def read(self, line: str) -> List[Any]:
@@ -148,10 +147,9 @@ class Bench(Stage):
     # Asking
 
     def ask(self, *lines: str) -> Reply:
-        """Asks for something that is no edit."""
+        """Asks for something that is no edit. A program that is gone begins again: it is asked again if somebody killed it, and not after Ctrl-C."""
         reply = self.settled(self.program.ask(lines))
         if reply.state == ENDED:
-            # (somebody killed the program, and it is there again)
             reply = self.settled(self.program.ask(lines))
         if reply.is_done:
             self.note(lines[0], reply)
