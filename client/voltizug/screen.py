@@ -55,12 +55,12 @@ class Screen:
 
     def page(self, lines: Sequence[str]) -> bool:
         """Has the pager show lines; returns whether there is one."""
-        with self.editor.lent():
-            try:
-                process = subprocess.Popen(shlex.split(os.environ.get("PAGER") or "less"), stdin=subprocess.PIPE, env={**LESS, **os.environ})
-            except (OSError, ValueError):
-                return False
-            with contextlib.suppress(BrokenPipeError):
-                process.communicate("".join(line + "\n" for line in lines).encode("utf-8", "replace"))
-            process.wait()
-        return True
+        text = "".join(line + "\n" for line in lines).encode("utf-8", "replace")
+        self.editor.lend(True)
+        try:
+            subprocess.run(shlex.split(os.environ.get("PAGER") or "less"), input=text, env={**LESS, **os.environ}, check=False)
+            return True
+        except (OSError, ValueError):
+            return False
+        finally:
+            self.editor.lend(False)
