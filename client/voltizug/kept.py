@@ -12,16 +12,8 @@ from typing import IO, List, NamedTuple, Optional, Sequence, Tuple
 LARGEST, YOUNG = 1 << 26, 60
 
 FileState = Optional[Tuple[int, int, int]]
-
-
-class Left(NamedTuple):
-    """What was left behind: the folder, the file in it that has the text with typed edits, their names, added words, and lines of an open block."""
-
-    room: str
-    path: str
-    edits: List[str]
-    words: List[str] = []
-    block: List[str] = []
+# What was left behind: the folder, the file in it that has the text with typed edits, their names, added words, and lines of an open block.
+Left = NamedTuple("Left", [("room", str), ("path", str), ("edits", List[str]), ("words", List[str]), ("block", List[str])])
 
 
 class Kept:
