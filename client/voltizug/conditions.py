@@ -8,7 +8,7 @@ from typing import Any, Collection, Dict, List, Sequence, Tuple
 from . import rows
 from .layout import named
 from .places import Places
-from .program import Memory, Program, encoded
+from .program import Program, encoded
 from .rows import Token
 
 # What follows the first word of a command; what is between two numbers, also in a comparison or a change of an integer.
@@ -154,13 +154,7 @@ class Copy:
 
     def events(self, program: Program, word: str, limit: int) -> List[Any]:
         """Returns the events of a word's run by the copy under a limit, with its tests; none if it cannot be run."""
-        copy = Memory(self.text)
-        runner = Program(program.command, copy.path, None, "", program.bell)
-        try:
-            runner.begin([], copy.path)
-            limited, reply = runner.ask_each([["limit %d" % limit], ["events " + word]])
-        finally:
-            runner.stop()
+        limited, reply = program.beside(program.command, self.text, ["limit %d" % limit], ["events " + word])
         found = rows.read("events", reply.lines) if limited.is_done and reply.is_done else []
         asked = {name: self.tests[name][0].asked(self.tests[name][1]) for name in self.tests.keys() & {getattr(row, "name", "") for row in found}}
         # (of the routine of a test there is the test in the place of its end, and nothing in that of its call)

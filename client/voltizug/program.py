@@ -192,6 +192,16 @@ class Program:
             pass
         return state, out, said
 
+    def beside(self, command: Sequence[str], text: bytes, *requests: Sequence[str]) -> List[Reply]:
+        """Returns the replies of another program, which has a text and no words."""
+        memory = Memory(text)
+        other = Program(command, memory.path, None, "", self.bell)
+        try:
+            other.begin([], memory.path)
+            return other.ask_each(requests)
+        finally:
+            other.stop()
+
     def text(self) -> Optional[bytes]:
         """Returns the current text, byte for byte as `save` writes it; nothing if that is broken off."""
         # (it may lack its last line feed)
