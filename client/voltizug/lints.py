@@ -14,6 +14,8 @@ from .rows import Outcome, Token
 
 # (of few words most letters are missing)
 MOST, FEW, MANY = 5, 50, 5000
+# Runs are not counted for a summary if so many steps would be made again that led to no stem.
+COSTLY = 10**7
 # From this length on the letters of a macro count, and not their order.
 LONG = 100
 # A literal after one of these is put into the text.
@@ -357,9 +359,10 @@ def lints(bench: Bench, has_all: bool = False) -> List[str]:
     outcomes = bench.outcomes() if sees_words else []
     looks = (misused, unset_slices, bare_commands, plain_braces, late_takings, half_done, idle_amongs, unset_integers, undefined)
     found = [lint for look in looks for lint in look(script)]
-    found += stopping_calls(script, bench, [start for start, _ in found]) if sees_words else []
+    sees_runs = has_all or int(bench.program.now.limit) * sum(row[1:] == ("refused", "Steps") for row in outcomes) <= COSTLY
+    found += stopping_calls(script, bench, [start for start, _ in found]) if sees_words and sees_runs else []
     found += strange_strings(script, outcomes) if has_all or bench.size >= FEW else []
-    found += wrong_ways(script, bench, outcomes) if outcomes and script.places.entries else []
+    found += wrong_ways(script, bench, outcomes) if outcomes and script.places.entries and sees_runs else []
     beyond = [token for token in script.tokens if has_all and token.kind == "literal" and not token.text.isascii()]
     others = " (and {})".format(counted(len(beyond) - 1, "more literal")) if len(beyond) > 1 else ""
     found += [(token.start, "%s has a letter beyond ASCII%s: other compilers ask for a stringdef" % (short(token.text), others)) for token in beyond[:1]]

@@ -285,6 +285,9 @@ class Terminal(Desk):
             last = left[-1]
             for word in [word for word in last.words if word not in before]:
                 self.ask("add " + word)
+            others, script = self.bench.note_rescue(last.path, last.base), short(self.bench.script)
+            lacks = "the changes of %s" % in_words(others, "and", 5) if others else "these changes"
+            self.screen.say("%s has changed since these edits were typed: the text of then comes back, without %s." % (script, lacks) if others is not None else "")
             if {*before, *self.bench.added}.issuperset(last.words) and (not last.path or self.edit(["replace " + last.path])):
                 self.bench.kept.forget(last.room)
 

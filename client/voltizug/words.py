@@ -41,6 +41,7 @@ MAY_NOT: Dict[str, str] = {
     "changed": "{path} has changed since it was read, and was not overwritten. Enter reads it again; {other} to keep both.",
     "refused?": "{path} has a text that was refused. Nothing was written: correct it there{then}, or save {path} again overwrites it.",
     "undone?": "{path} has a change that undo took back. Nothing was written: Enter reads it again, save {path} again overwrites it.",
+    "rescued?": "{path} has changes that the rescued text lacks. Nothing was written: Enter reads it again, save {path} again overwrites it.",
     "no words": "{path} is there already, and append puts words only into the file of words or a new file.",
     "gone": "{path} is not there any more, and was not written: {other}.",
     "gone?": "{path} is not there any more (deleted or renamed). Nothing was written: save {path} again writes it anew.",
