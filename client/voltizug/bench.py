@@ -330,7 +330,7 @@ class Bench(Stage):
             ("no folder", not os.path.isdir(folder)),
             ("folder", os.path.isdir(path)),
             ("closed", not os.access(path if is_there else folder, os.W_OK)),
-            ("gone?", is_own and not is_there),
+            ("gone?", is_own and not is_there and self.script not in self.gone),
             ("gone", is_append and path == self.words and not os.path.lexists(path)),
             ("refused?", is_own and is_refused),
             (self.older, is_own and self.older and self.script not in self.saved()),

@@ -188,6 +188,9 @@ class Desk:
         if lines[0] in ("reload", "words") and code != BROKEN_OFF[0] and self.warn(self.bench.words if lines[0] == "words" else None) and code == 75:
             # (the warning says how the list becomes UTF-8)
             said = "Nothing changed."
+        if lines[0] == "reload" and not os.path.lexists(self.bench.script):
+            # (this says so)
+            self.bench.gone.add(self.bench.script)
         if lines[0] == "reload":
             said = "Nothing changed. " + self.correction(self.bench.script) if code == 48 else said
         elif code == 48 and not reply.said:
@@ -249,7 +252,7 @@ class Desk:
         # (an edit that leads back to the mark has its rows in "last" alone)
         own, added = self.own if edit.changes else [], {}  # type: Any, Dict[str, rows.Outcome]
         try:
-            tail, added = self.more_on(edit, own), self.added(own)
+            tail, added = self.more_on(edit, lines, own), self.added(own)
             if self.editor.is_interrupted:
                 raise Skipped
         except Skipped:
@@ -265,7 +268,7 @@ class Desk:
         self.screen.write([layout.cut(layout.named(line), size.columns) for line in found] + last)
         return True
 
-    def more_on(self, edit: Edit, own: Sequence[Any]) -> List[str]:
+    def more_on(self, edit: Edit, lines: Sequence[str], own: Sequence[Any]) -> List[str]:
         """Returns what is said of an accepted edit beside its figures, for which the program is asked more."""
         self.bench.program.is_summing = True
         if self.editor.is_interrupted:
@@ -275,6 +278,8 @@ class Desk:
         refused = [row for row in own if row.kind == "changed" and row.new_kind == "refused"]
         worst = next((row.word for row in refused if row.new in loops.NAMES), refused[0].word if refused else "")
         tail = self.new_lints() if edit.command in ("reload", *BLOCKS, *OPEN_BLOCKS) else []
+        typed = "\n".join(lines[1:-1])
+        tail += warn.on_typed(lines[0], typed, self.bench.by_word()) if not typed.isascii() else []
         return [*tail, loops.ending(worst, self.bench) if refused else ""]
 
     def added(self, changes: Sequence[Any]) -> Dict[str, rows.Outcome]:

@@ -9,6 +9,7 @@ from .bench import Bench
 from .conditions import BODY
 from .editor.names import Names
 from .layout import counted, in_words, named, short
+from .near import composed
 from .places import LARGEST, Places
 from .rows import Outcome, Token
 
@@ -278,7 +279,9 @@ def unset_integers(script: Script) -> Iterable[Lint]:
 def strange_strings(script: Script, outcomes: Sequence[Outcome]) -> Iterable[Lint]:
     """The strings of amongs with a letter that no word has and no command puts in."""
     there = set().union(*put_in(script.tokens), *(row.word + row.stem * (row.kind == "stem") for row in outcomes))  # type: Set[str]
-    for (_, _, string), row in script.places.entries.items() if outcomes else ():
+    entries = [(string, row) for (_, _, string), row in script.places.entries.items() if outcomes and set(string) - there]
+    # (of those in another form of Unicode a warning speaks once)
+    for string, row in [(string, row) for string, row in entries if len(composed(string)) == len(string)]:
         strange = list(map(letter, sorted(set(string) - there)))
         if strange:
             yield int(row.start), "'%s' has %s, which no word has and no command puts in" % (short(string), in_words(strange, "and", 6))
