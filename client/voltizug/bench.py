@@ -1,11 +1,10 @@
 """What a face asks: edits and what they change, places, and files. It holds the program, keeps no history of its own, and makes no sentence."""
-import contextlib
 import os
 import time
 from typing import Any, Callable, Dict, List, NamedTuple, Optional, Sequence, Set, Tuple
 
 from . import rows
-from .kept import FileState, Kept, is_same, read_file, state_of
+from .kept import FileState, Kept, is_same, read_file, state_of, write_file
 from .places import LARGEST, Places
 from .program import BROKEN, BROKEN_OFF, DONE, ENDED, USUAL_LIMIT, Moment, Program, Reply, Skipped, text_of
 
@@ -61,13 +60,12 @@ class Stage:
                 found[path] = None
         return found
 
-    def settled(self, reply: Reply) -> Reply:
-        """Returns the reply after what has to be done if the program is gone."""
-        return reply
+    def ask(self, *lines: str) -> Reply:
+        return self.program.ask(lines)
 
     def known(self, line: str) -> Optional[List[str]]:
-        """Asks for a report: returns its lines, or nothing if it is refused. If it is broken off meanwhile, the program begins again."""
-        reply = self.settled(self.program.ask([line]))
+        """Asks for a report: returns its lines, or nothing if it is refused."""
+        reply = self.ask(line)
         return reply.lines if reply.is_done else None
 
     def read(self, line: str) -> List[Any]:
@@ -153,10 +151,9 @@ class Bench(Stage):
     # Asking
 
     def ask(self, *lines: str) -> Reply:
-        """Asks for something that is no edit."""
+        """Asks for something that is no edit. A program that is gone begins again: it is asked again if somebody killed it, and not after Ctrl-C."""
         reply = self.settled(self.program.ask(lines))
         if reply.state == ENDED:
-            # (somebody killed the program, and it is there again)
             reply = self.settled(self.program.ask(lines))
         if reply.is_done:
             self.note(lines[0], reply)
@@ -342,7 +339,10 @@ class Bench(Stage):
 
     def write(self, command: str, path: str) -> Reply:
         is_own = self.is_script(path)
-        reply = self.write_anew() if is_own and not os.path.exists(path) else self.ask("%s %s" % (command, self.script if is_own else path))
+        if is_own and not os.path.exists(path):
+            # (the program overwrites only what it has read: so that is there again first)
+            write_file(self.script, self.refused_text or self.file_text or b"")
+        reply = self.ask("%s %s" % (command, self.script if is_own else path))
         if reply.is_done:
             self.written[os.path.realpath(path)] = state_of(path)
             if is_own:
@@ -353,12 +353,6 @@ class Bench(Stage):
                 self.note_file()
             self.keep(self.read("history"))
         return reply
-
-    def write_anew(self) -> Reply:
-        """Writes SCRIPT, which is gone. (The program overwrites only what it has read: so that is there again first.)"""
-        with contextlib.suppress(OSError), open(os.path.realpath(self.script), "xb") as file:
-            file.write(self.refused_text or self.file_text or b"")
-        return self.ask("save " + self.script)
 
 
 def age(state: Tuple[int, int, int]) -> float:

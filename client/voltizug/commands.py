@@ -9,17 +9,8 @@ TABLE = os.path.join(os.path.dirname(os.path.realpath(__file__)), "..", "..", "t
 ENTRY = re.compile(r"^(?:at|block) ((\S+)(?: \[?(.*?)\]*)?) - (.+?)(?: \(at a terminal\))?$(?:\nmore (.+))?", re.M)
 # These are for those who read rows, and help does not list them.
 PROGRAMS, UNLISTED = "For programs", ("echo", "#")
-
-
-class Command(NamedTuple):
-    """`takes` is what may follow the name, without brackets around it; `more` is for help COMMAND."""
-
-    usage: str
-    name: str
-    takes: str
-    does: str
-    more: str
-
+# `takes` is what may follow the name, without brackets around it; `more` is for help COMMAND.
+Command = NamedTuple("Command", [("usage", str), ("name", str), ("takes", str), ("does", str), ("more", str)])
 
 with open(TABLE, encoding="utf-8") as table:
     GROUPS = {re.split("[:\n]", part)[0]: [Command(*found) for found in ENTRY.findall(part)] for part in table.read().split("\ngroup ")[1:]}

@@ -24,8 +24,9 @@ class Completion:
         command, has_more, rest = line.partition(" ")
         is_file = command in COMMANDS and COMMANDS[command].takes == "FILE"
         if not self.is_in_block and (is_file or line.endswith("> " + text)):
-            return files(rest if is_file else text, text)
-        found = sorted(name for name in self.candidates(command, has_more, rest) if name.startswith(text))
+            found = files(rest if is_file else text, text)
+        else:
+            found = sorted(name for name in self.candidates(command, has_more, rest) if name.startswith(text))
         return found if len(found) <= MOST else [os.path.commonprefix(found)]
 
     def candidates(self, command: str, has_more: str, rest: str) -> Iterable[str]:

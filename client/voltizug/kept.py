@@ -12,18 +12,11 @@ from typing import IO, List, NamedTuple, Optional, Sequence, Tuple
 LARGEST, YOUNG = 1 << 26, 60
 
 FileState = Optional[Tuple[int, int, int]]
-
-
-class Left(NamedTuple):
-    """What was left behind: the folder, the file in it that has the text with typed edits, their names, added words, lines of an open block, and the
-    text of SCRIPT that the edits were typed over."""
-
-    room: str
-    path: str
-    edits: List[str]
-    words: List[str] = []
-    block: List[str] = []
-    base: Optional[bytes] = None
+# What was left behind: the folder, the file in it that has the text with typed edits, their names, added words, lines of an open block, and the text
+# of SCRIPT that the edits were typed over.
+Left = NamedTuple("Left", [
+    ("room", str), ("path", str), ("edits", List[str]), ("words", List[str]), ("block", List[str]), ("base", Optional[bytes])
+])
 
 
 class Kept:
@@ -113,6 +106,20 @@ def read_file(path: Optional[str]) -> Optional[bytes]:
             with open(path or "", "rb") as file:
                 return file.read()
     return None
+
+
+def write_file(path: str, data: bytes) -> bool:
+    """Writes a file; returns whether it did. If that fails, a file that is there has its former text."""
+    target = os.path.realpath(path)
+    with contextlib.suppress(OSError), tempfile.TemporaryDirectory(dir=os.path.dirname(target)) as room:
+        new = os.path.join(room, "new")
+        with open(new, "wb") as file:
+            file.write(data)
+        if os.path.exists(target):
+            shutil.copymode(target, new)
+        os.replace(new, target)
+        return True
+    return False
 
 
 def read_lines(path: Optional[str]) -> List[bytes]:

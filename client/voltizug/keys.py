@@ -11,7 +11,7 @@ import select
 import signal
 import sys
 import termios
-from typing import Any, Callable, Iterator, List, Optional, Tuple
+from typing import Any, Callable, List, Optional, Tuple
 
 HISTORY, INTERRUPT, PAUSE = 2000, b"\x03", 0.1
 # How often files are looked at, and how soon again after a change (a file may still be being written); how often signals are if no file is.
@@ -207,14 +207,10 @@ class Editor:
         """Returns how many rows more than one the line takes above which a save is shown."""
         return (len(readline.get_line_buffer()) + 2) // columns if self.is_above else 0
 
-    @contextlib.contextmanager
-    def lent(self) -> Iterator[None]:
-        set_keys(self.base)
-        try:
-            yield
-        finally:
-            self.is_interrupted = False
-            set_keys(self.quiet)
+    def lend(self, is_lent: bool) -> None:
+        """Lends the terminal to a pager, or takes it back."""
+        self.is_interrupted = False
+        set_keys(self.base if is_lent else self.quiet)
 
     # History and TAB
 

@@ -10,15 +10,8 @@ from .words import REFUSALS, in_quotes
 NAMES = ("Steps", "Depth", "TooLong")
 # The longest turn that is looked for, in events. So many turns, one like another, are a loop.
 LONGEST, SURE = 400, 100
-
-
-class Turn(NamedTuple):
-    """What goes round: the routine of the command that does, or those that call each other; what it does each time; how often at least, or 0."""
-
-    names: Tuple[str, ...]
-    is_call: bool
-    does: Tuple[str, ...]
-    count: int
+# What goes round: the routine of the command that does, or those that call each other; what it does each time; how often at least, or 0.
+Turn = NamedTuple("Turn", [("names", Tuple[str, ...]), ("is_call", bool), ("does", Tuple[str, ...]), ("count", int)])
 
 
 def running(events: Sequence[Any]) -> List[str]:

@@ -46,13 +46,8 @@ class Moment(NamedTuple):
     stems: str = ""
 
 
-class Step(NamedTuple):
-    """An accepted command: its lines, how many seconds it took, and the current state and that of the mark after it."""
-
-    lines: Sequence[str]
-    seconds: float
-    now: Moment
-    marked: Moment
+# An accepted command: its lines, how many seconds it took, and the current state and that of the mark after it.
+Step = NamedTuple("Step", [("lines", Sequence[str]), ("seconds", float), ("now", Moment), ("marked", Moment)])
 
 
 class Skipped(Exception):

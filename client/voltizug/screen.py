@@ -2,10 +2,8 @@
 import contextlib
 import os
 import shlex
-import shutil
 import subprocess
 import sys
-import tempfile
 from typing import List, Sequence
 
 from . import layout
@@ -57,26 +55,12 @@ class Screen:
 
     def page(self, lines: Sequence[str]) -> bool:
         """Has the pager show lines; returns whether there is one."""
-        with self.editor.lent():
-            try:
-                process = subprocess.Popen(shlex.split(os.environ.get("PAGER") or "less"), stdin=subprocess.PIPE, env={**LESS, **os.environ})
-            except (OSError, ValueError):
-                return False
-            with contextlib.suppress(BrokenPipeError):
-                process.communicate("".join(line + "\n" for line in lines).encode("utf-8", "replace"))
-            process.wait()
-        return True
-
-
-def to_file(path: str, lines: Sequence[str]) -> bool:
-    """Writes a report to a file; returns whether it did. If that fails, a file that is there has its former text."""
-    target = os.path.realpath(path)
-    with contextlib.suppress(OSError), tempfile.TemporaryDirectory(dir=os.path.dirname(target)) as room:
-        new = os.path.join(room, "new")
-        with open(new, "wb") as file:
-            file.write("".join(line + "\n" for line in lines).encode("utf-8", "surrogateescape"))
-        if os.path.exists(target):
-            shutil.copymode(target, new)
-        os.replace(new, target)
-        return True
-    return False
+        text = "".join(line + "\n" for line in lines).encode("utf-8", "replace")
+        self.editor.lend(True)
+        try:
+            subprocess.run(shlex.split(os.environ.get("PAGER") or "less"), input=text, env={**LESS, **os.environ}, check=False)
+            return True
+        except (OSError, ValueError):
+            return False
+        finally:
+            self.editor.lend(False)

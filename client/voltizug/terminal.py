@@ -8,7 +8,7 @@ from collections import Counter
 from operator import ne
 from typing import Any, List, Sequence, Tuple
 
-from . import commands, kept, layout, lints, loops, options, reports, rows, screen, warn, words
+from . import commands, kept, layout, lints, loops, options, reports, rows, warn, words
 from .bench import Bench, typed_edits
 from .commands import BEFORE_FILE, BLOCKS, COMMANDS, LANGUAGE, NO_FILE, OPEN_BLOCKS, REPORTING, ROWS, WITH_TEXT
 from .conditions import with_tests
@@ -108,7 +108,8 @@ class Terminal(Desk):
         if not path:
             self.screen.write(shown, is_report=name in REPORTING, is_text=name in TEXTS, last=FIGURES.get(name, 0))
         elif self.may_write(typed, path):
-            why = "" if screen.to_file(path, shown) else words.not_written(name, path, self.bench)
+            is_written = kept.write_file(path, encoded("".join(line + "\n" for line in shown)))
+            why = "" if is_written else words.not_written(name, path, self.bench)
             self.screen.say(why or "%s in %s" % (counted(len(shown), "line"), short(path)))
 
     # Replies that are shown with more than their rows
