@@ -697,7 +697,7 @@ class Traps(Case):
             said = "my.sbl has changed since these edits were typed: the text of then comes back, without the changes of long.\n"
             self.assertIn(said, shown)
             terminal.enter("stats", *lines[1:])
-            said = "my.sbl has changes that the rescued text lacks. Nothing was written: Enter reads it again, save my.sbl again overwrites it."
+            said = "my.sbl has a change that the current script lacks. Nothing was written: Enter reads it again, save my.sbl again overwrites it."
             self.assertEqual(terminal.enter("save my.sbl"), said)
             terminal.enter("among ending 1", "among ( 'x' )", ".")
             self.assertEqual(terminal.enter("save my.sbl"), said)

@@ -95,10 +95,9 @@ class Bench(Stage):
         self.on_restart: Callable[[Optional[Reply]], None] = lambda reply: None
         # (called after an edit was accepted, and before it is asked what that changed)
         self.on_accepted: Callable[[], None] = lambda: None
-        # The states of the files that were written here; the bytes of a text of SCRIPT that was refused; the text of SCRIPT that the current one goes
-        # on from, and a key of words.MAY_NOT if that is an older one; by the hash of a rescued text the same.
-        self.written, self.refused_text, self.base = {}, None, None  # type: Dict[str, FileState], Optional[bytes], Optional[bytes]
-        self.older, self.rescued = "", {}  # type: str, Dict[int, bytes]
+        # The states of the files that were written here; the bytes of a text of SCRIPT that was refused; by the hash of a text of which one of SCRIPT
+        # it goes on from.
+        self.written, self.refused_text, self.bases = {}, None, {}  # type: Dict[str, FileState], Optional[bytes], Dict[int, Optional[bytes]]
         # The texts that were read, by their hashes; by the hash of a text that was saved to SCRIPT, or that a reload replaced, what SCRIPT had before.
         self.read_texts, self.replaced = set(), {}  # type: Set[int], Dict[int, bytes]
         # The texts that a reload replaced, with the names of their edits; the words that were added; what differs from the mark; families.
@@ -118,8 +117,7 @@ class Bench(Stage):
         return reply
 
     def note_file(self) -> None:
-        self.file_text = self.base = self.program.now.text
-        self.older = ""
+        self.file_text = self.base = self.bases[hash(self.program.now.text)] = self.program.now.text
 
     def look(self, *paths: str) -> None:
         """Notes files as they are now, all without names: they are read next."""
@@ -172,23 +170,21 @@ class Bench(Stage):
         program, (word, _, argument) = self.program, line.partition(" ")
         if word in ("add", "remove"):
             program.now = program.now._replace(words=(*program.now.words, line))
-            program.note([line])
             self.added = [*self.added, argument] if word == "add" else [other for other in self.added if other != argument]
         elif word in ("words", "append"):
-            if word == "words":
-                program.now = program.now._replace(words=())
-                program.note([line])
+            program.now = program.now._replace(words=() if word == "words" else program.now.words)
             self.look(self.words or "")
             self.added = []
         elif word == "mark":
             program.marked = program.now._replace(stems=os.path.realpath(argument) if argument else "")
-            program.note(["mark " + program.marked.stems if argument else line])
             self.changes = self.read("changes") if argument else []
         elif word == "families" and argument:
             found = pairs_of(reply)
             self.families, self.pairs = (argument, found) if found and found[0].within != "0" else ("", ())
         if word in ("add", "remove", "words", "append"):
             self.kept.note("added", self.added)
+        if word in ("add", "remove", "words", "mark"):
+            program.note([line])
 
     def settled(self, reply: Reply) -> Reply:
         """After a program that is gone: begins it again. The state of the reply stays; it is `lost` if that fails."""
@@ -271,14 +267,12 @@ class Bench(Stage):
 
     def note_text(self, word: str, before: Moment, history: Sequence[Any], done: Sequence[Any]) -> Optional[Tuple[str, ...]]:
         """Notes which texts files have. Returns the names of the typed edits that a reload replaced."""
-        text, aside, is_back = self.program.now.text, None, word == "undo" and before.text == self.file_text
-        self.older = "" if text == self.file_text else "rescued?" if hash(text) in self.rescued else self.older or "undone?" * is_back
-        self.base = self.rescued.get(hash(text), self.base if self.older and not is_back else text if self.older else self.file_text)
+        text, aside, base, former = self.program.now.text, None, self.base, self.file_text or b""
+        self.base = self.file_text if text == self.file_text else self.bases.setdefault(hash(text), base)
         if word == "undo" and before.text != text:
             # (what was replaced and undo takes back, the author drops)
             self.aside = [(other, names) for other, names in self.aside if other != before.text]
         if word == "reload":
-            base, former = self.base, self.file_text or b""
             self.note_file()
             if before.text != text and self.is_unsaved(before.text) and not self.has_saved(before.text, text):
                 aside = typed_names(history)
@@ -302,7 +296,7 @@ class Bench(Stage):
         """Notes a text that is going to be rescued. If SCRIPT had another text when it was typed, returns what it has now and had not then."""
         if base is None or base == self.file_text:
             return None
-        self.rescued[hash(read_file(path))] = base
+        self.bases[hash(read_file(path))] = base
         places = self.places()
         return [name for name, row in places.definitions.items() if places.text[int(row.start) : int(row.end)] not in base]
 
@@ -330,7 +324,7 @@ class Bench(Stage):
             ("gone?", is_own and not is_there and self.script not in self.gone),
             ("gone", is_append and path == self.words and not os.path.lexists(path)),
             ("refused?", is_own and is_refused),
-            (self.older, is_own and self.older and self.script not in self.saved()),
+            ("older?", is_own and self.base != self.file_text and self.script not in self.saved()),
             ("there", not is_new and is_report and not os.path.isfile(path)),
             ("again?", is_other and not is_save),
             ("there", is_other and name not in self.written),

@@ -168,8 +168,7 @@ class Desk:
         self.editor.is_interrupted = False
         if reply is None:
             count = len(self.bench.program.steps) - 1
-            self.screen.say("For undo the edits before the last %s are one now." % ("%d" % count if count > 1 else "one") if count else "For undo the edits are one now.")
-            return
+            return self.screen.say("For undo all edits%s are one now." % (" but the last %d" % count if count else ""))
         status = self.bench.program.stop() or 0
         how = ", by signal %d" % -status if status < 0 else " with status %s" % status
         why = "The program was ended from outside%s." % how if reply.state == ENDED else "It was broken off."

@@ -8,9 +8,10 @@ import time
 from itertools import accumulate
 from typing import IO, Callable, List, NamedTuple, Optional, Sequence, Tuple
 
+from .kept import write_file
+
 # After how many seconds a request is said to take long; how often it is looked at the time meanwhile; how long an edit may take to break off;
-# the most bytes of a line; how long the steps but the last one that a new start makes again may take, and
-# how many they are.
+# the most bytes of a line; how long the steps but the last one that a new start makes again may take, and how many they are.
 LONG, LOOK, GRACE, LONGEST, AGAIN, MOST = 2.0, 0.2, 5.0, 65536, 10.0, 100
 # The commands that the program breaks off itself, and how it refuses them then.
 EDITS, BROKEN_OFF = ("replace", "reload", "routine", "among", "grouping", "limit", "words", "undo", "redo"), (68, "BrokenOff")
@@ -82,7 +83,7 @@ class Program:
         self.process: Optional[subprocess.Popen] = None
         self.now = self.marked = Moment()
         # What was done since the start, or since what a new start made one step, with the state before it; how many seconds the last request took.
-        self.steps, self.took = [Step((), 0, self.now, self.marked)], 0.0
+        self.steps, self.took = [], 0.0  # type: List[Step], float
         # Whether a summary is made: it asks reports that Ctrl-C does not end.
         self.is_summing = False
         # The number of the program's rows; the command that reads SCRIPT.
@@ -234,13 +235,11 @@ class Program:
         """Begins again, after the program was broken off or killed: makes the last steps again one by one, as many as take little time, after one
         step for all before them. Returns whether all is there again. If SCRIPT is gone, a copy is in its place."""
         now, was_deaf, self.is_deaf = Step((), 0, self.now, self.marked), self.is_deaf, True
-        steps = self.steps if self.steps[-1][2:] == now[2:] else [now]
-        count = sum(passed <= AGAIN for passed in accumulate(step.seconds for step in reversed(steps[1:-1])))
-        ways = [way for last in (steps[-2 - count :], [now]) for way in ((last, self.script, "reload"), (last, self.copy_path, "replace " + self.script))]
-        try:
-            return any(self.goes_on(*way) for way in ways)
-        finally:
-            self.is_deaf = was_deaf
+        count = sum(passed <= AGAIN for passed in accumulate(step.seconds for step in self.steps[-2:0:-1]))
+        ways = [(last, *way) for last in (self.steps[-2 - count :], [now]) for way in ((self.script, "reload"), (self.copy_path, "replace " + self.script))]
+        is_there = any(self.goes_on(*way) for way in ways)
+        self.is_deaf = was_deaf
+        return is_there
 
     def goes_on(self, steps: List[Step], script: str, reload: str) -> bool:
         """Begins with the state of the first one of some steps, and makes the others again."""
@@ -259,12 +258,11 @@ class Program:
             return False
         # (WORDS may have changed: a word that was added is there already, or one that was taken out is not)
         is_there = [reply.is_done or reply.lines in (["no 40 Present"], ["no 41 Absent"]) for reply in self.ask_each(requests)]
-        return all(is_there) and self.text() == self.now.text
+        return all(is_there) and self.text() == self.now.text and (steps[-1].now, steps[-1].marked) == (self.now, self.marked)
 
     def copied(self, text: bytes, ending: str = "") -> str:
-        """Returns the path of a copy of a text. (Without one the new start fails.)"""
-        with contextlib.suppress(OSError), open(self.copy_path + ending, "wb") as file:
-            file.write(text)
+        """Returns the path of a copy of a text."""
+        write_file(self.copy_path + ending, text)
         return self.copy_path + ending
 
 
