@@ -6,7 +6,7 @@ from typing import Any, Callable, Dict, List, NamedTuple, Optional, Sequence, Se
 from . import rows
 from .kept import FileState, Kept, is_same, read_file, state_of, write_file
 from .places import LARGEST, Places
-from .program import BROKEN, BROKEN_OFF, DONE, ENDED, USUAL_LIMIT, Moment, Program, Reply, Skipped, text_of
+from .program import BROKEN, BROKEN_OFF, DONE, ENDED, USUAL_LIMIT, Moment, Program, Reply, Skipped
 
 # After so many seconds a file that is not there, or empty, is so: no editor is just saving it. After so many a file that is written in place has all.
 GONE, QUIET = 1, 0.05
@@ -224,7 +224,7 @@ class Bench(Stage):
         program, before, word = self.program, self.program.now, edit.command
         families = [["families " + self.families]] if self.families else []
         told, steps = program.ask_each([["text", "echo"], ["history"]], has_grace=True)
-        text = text_of(told)
+        text = program.text(told)
         if text is None or not steps.is_done:
             return edit._replace(reply=self.settled(Reply(program.state if program.state != DONE else BROKEN, [], [])))
         done = rows.read("history", steps.lines)
@@ -278,7 +278,8 @@ class Bench(Stage):
                 aside = typed_names(history)
                 self.aside.append((before.text, aside))
                 self.replaced.setdefault(hash(before.text), former)
-                self.kept.keep_text("aside", before.text, base)
+                self.kept.keep("aside.base", base or b"")
+                self.kept.keep("aside", before.text)
             self.read_texts.add(hash(text))
         self.keep(done)
         return aside
@@ -287,7 +288,8 @@ class Bench(Stage):
         """Keeps what was typed for the case that the terminal is closed: the room has the current text, and the last one that was replaced."""
         text, aside = self.program.now.text, self.put_aside()
         if self.is_unsaved(text):
-            self.kept.keep_text("text", text, self.base)
+            self.kept.keep("text.base", self.base or b"")
+            self.kept.keep("text", text)
             self.kept.note("about", ["text", *(typed_names(history) or ["a part of the script"])])
         else:
             self.kept.note("about", ["aside", *aside] if aside else [])

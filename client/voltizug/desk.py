@@ -252,8 +252,6 @@ class Desk:
         own, added = self.own if edit.changes else [], {}  # type: Any, Dict[str, rows.Outcome]
         try:
             tail, added = self.more_on(edit, lines, own), self.added(own)
-            if self.editor.is_interrupted:
-                raise Skipped
         except Skipped:
             own, tail = [], ["The rest of the summary is left out."]
         finally:

@@ -41,10 +41,6 @@ class Kept:
             file.write(text)
         return path
 
-    def keep_text(self, name: str, text: bytes, base: Optional[bytes]) -> None:
-        self.keep(name + ".base", base or b"")
-        self.keep(name, text)
-
     def has(self, *names: str) -> bool:
         return any(read_file(os.path.join(self.room, name)) for name in names)
 

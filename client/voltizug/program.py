@@ -84,8 +84,8 @@ class Program:
         self.now = self.marked = Moment()
         # What was done since the start, or since what a new start made one step, with the state before it; how many seconds the last request took.
         self.steps, self.took = [], 0.0  # type: List[Step], float
-        # Whether a summary is made: it asks reports that Ctrl-C does not end.
-        self.is_summing = False
+        # Whether a summary is made: it asks reports that Ctrl-C does not end; whether the bell has rung since it began.
+        self.is_summing = self.has_rung = False
         # The number of the program's rows; the command that reads SCRIPT.
         self.rows, self.reload = "", "reload"
         # (called once, or again and again while it returns False)
@@ -129,14 +129,13 @@ class Program:
 
     def break_off(self) -> None:
         """Breaks off the request that runs; a handler of signals may call it."""
+        self.has_rung = True
         with contextlib.suppress(BlockingIOError):
             os.write(self.bell[1], b"!")
 
-    def hush(self) -> bool:
-        """Returns whether the bell has rung."""
+    def hush(self) -> None:
         with contextlib.suppress(BlockingIOError):
-            return bool(os.read(self.bell[0], 1 << 16))
-        return False
+            os.read(self.bell[0], 1 << 16)
 
     def set_stop(self, is_there: bool) -> None:
         """Makes the file at which an edit is broken off, or takes it away."""
@@ -154,23 +153,25 @@ class Program:
         if any(len(encoded(line)) > LONGEST for lines in requests for line in lines):
             return [Reply(DONE, ["no 72 LineTooLong"], [])] * len(requests)
         sent = "".join("%s\n" % line for lines in requests for line in [*lines, "echo " + self.mark])
-        if self.hush() and self.is_summing:
+        self.hush()
+        self.has_rung = self.has_rung and self.is_summing
+        if self.has_rung:
             raise Skipped
         is_edit, begin = bool(self.stop_path) and requests[-1][0].partition(" ")[0] in EDITS, time.monotonic()
         grace = GRACE if is_edit or has_grace or self.is_summing else 0
-        self.state, out, said, has_rung = self.exchange(encoded(sent), len(requests), patience, grace)
+        self.state, out, said = self.exchange(encoded(sent), len(requests), patience, grace)
         self.took = time.monotonic() - begin if is_edit else self.took
         if self.state in (BROKEN, LATE):
             self.stop()
-        if self.state == DONE and has_rung and self.is_summing:
+        if self.state == DONE and self.has_rung and self.is_summing:
             raise Skipped
         answers = out.split(encoded(self.mark + "\n"))[:-1]
         replies = [Reply(DONE, lines_of(answer), lines_of(said)) for answer in answers]
         return replies + [Reply(self.state, [], lines_of(said))] * (len(requests) - len(answers))
 
-    def exchange(self, sent: bytes, wanted: int, patience: Optional[float], grace: float) -> Tuple[str, bytearray, bytearray, bool]:
-        """Sends bytes and takes what comes, up to so many marks. Returns how that ended, what came from both pipes, and whether the bell rang. It goes
-        on for so many seconds then, or until the bell rings again."""
+    def exchange(self, sent: bytes, wanted: int, patience: Optional[float], grace: float) -> Tuple[str, bytearray, bytearray]:
+        """Sends bytes and takes what comes, up to so many marks. Returns how that ended, and what came from both pipes. After the bell it goes on for
+        so many seconds, or until the bell rings again."""
         process, mark, begin = self.process, b"%s\n" % self.mark.encode(), time.monotonic()
         left, out, said, state, on_long, rung = memoryview(sent), bytearray(), bytearray(), "", self.on_long, 0.0
         with selectors.DefaultSelector() as selector:
@@ -211,7 +212,7 @@ class Program:
             process.wait()
         while take(process.stderr, said):
             pass
-        return state, out, said, rung > 0
+        return state, out, said
 
     def beside(self, command: Sequence[str], text: bytes, *requests: Sequence[str]) -> List[Reply]:
         """Returns the replies of another program, which has a text and no words."""
@@ -223,9 +224,11 @@ class Program:
         finally:
             other.stop()
 
-    def text(self) -> Optional[bytes]:
-        """Returns the current text, byte for byte as `save` writes it; nothing if that is broken off."""
-        return text_of(self.ask(["text", "echo"]))
+    def text(self, reply: Optional[Reply] = None) -> Optional[bytes]:
+        """Returns the current text, byte for byte as `save` writes it; nothing if that is broken off. It may have been asked for already."""
+        # (it may lack its last line feed)
+        reply = reply or self.ask(["text", "echo"])
+        return encoded("\n".join(reply.lines)) if reply.is_done else None
 
     def note(self, lines: Sequence[str], seconds: float = 0) -> None:
         """Notes an accepted command, after what it changed."""
@@ -276,12 +279,6 @@ def take(stream: IO[bytes], into: bytearray) -> Optional[bytes]:
     data = stream.read(1 << 18)
     into += data or b""
     return data
-
-
-def text_of(reply: Reply) -> Optional[bytes]:
-    """Returns the text in the reply to `text` and `echo`."""
-    # (it may lack its last line feed)
-    return encoded("\n".join(reply.lines)) if reply.is_done else None
 
 
 def encoded(text: str) -> bytes:

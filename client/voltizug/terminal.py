@@ -141,9 +141,7 @@ class Terminal(Desk):
         return layout.changes(self.own, self.added(self.own)) + ["the last edit changed " + figures]
 
     def reply_lint(self, *_: object) -> List[str]:
-        found, text = warn.warnings_on(self.bench.script, self.bench.words), readable(self.bench.program.now.text)
-        typed = warn.on_typed("script", text, self.bench.by_word()) if not any(warn.DECOMPOSED[1] in line for line in found) else []
-        return [*found, *typed, *lints.lints(self.bench, has_all=True)] or ["nothing was found"]
+        return [*warn.warnings_on(self.bench.script, self.bench.words), *lints.lints(self.bench, has_all=True)] or ["nothing was found"]
 
     def reply_script(self, *_: object) -> List[str]:
         return readable(self.bench.program.now.text).rstrip("\n").split("\n")
