@@ -238,13 +238,14 @@ def idle_amongs(script: Script) -> Iterable[Lint]:
     tested = {token.text for body in script.bodies.values() for i, token in enumerate(body) if token.text in script.bodies and is_test(body, i)}
     what = "no string here has a command, and nothing takes the slice of [substring]: (delete) after the strings is meant, perhaps"
     for name, body in script.bodies.items():
-        last, is_free = 0, name not in tested and taking.isdisjoint(reached([name], script.callers) - {name})
+        last = 0
         for i, token in enumerate(body):
             last = i if token.text == "substring" else last
             if token.text == "among":
                 has_slice, end, last = last > 0 and body[last - 1].text + body[last + 1].text == "[]", end_of(body, i + 1), 0
-                inside, after = ({other.text for other in part} for part in (body[i + 2 : end], body[end:]))
-                if has_slice and is_free and "(" not in inside and takes.isdisjoint(after):
+                is_idle = has_slice and name not in tested and all(other.text != "(" for other in body[i + 2 : end])
+                is_idle = is_idle and takes.isdisjoint(other.text for other in body[end:])
+                if is_idle and taking.isdisjoint(reached([name], script.callers) - {name}):
                     yield token.start, what
 
 
