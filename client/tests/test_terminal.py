@@ -646,6 +646,19 @@ class Traps(Case):
         self.assertIn("taken back: the whole script", terminal.enter("undo"))
         self.assertIn("taken back: among ending 1", terminal.enter("undo"))
 
+    def test_a_script_whose_reload_was_broken_off_is_not_overwritten_at_once(self):
+        loop = AUTHOR.replace("define long as test hop 5", "define long as repeat true")
+        terminal = self.begin("my.sbl", "my.words", list="".join("w%dal\n" % i for i in range(3000)))
+        terminal.save(loop)
+        terminal.send("\r")
+        terminal.got(None, 0.3)
+        self.assertIn("It was broken off. Nothing changed.", terminal.type("\x03"))
+        said = "my.sbl has a text that was refused. Nothing was written: correct it there and press Enter, or save my.sbl again overwrites it."
+        self.assertEqual(terminal.enter("save my.sbl"), said)
+        with open(os.path.join(self.folder, "my.sbl")) as file:
+            self.assertEqual(file.read(), loop)
+        self.assertEqual(terminal.enter("save my.sbl"), "saved in my.sbl")
+
     def test_the_program_is_killed(self):
         terminal = self.begin()
         terminal.enter("routine plural", "true", ".")

@@ -6,7 +6,7 @@ from typing import Any, Callable, Dict, List, NamedTuple, Optional, Sequence, Se
 from . import rows
 from .kept import FileState, Kept, is_same, read_file, state_of, write_file
 from .places import LARGEST, Places
-from .program import BROKEN, BROKEN_OFF, DONE, ENDED, USUAL_LIMIT, Moment, Program, Reply, Skipped
+from .program import BROKEN, DONE, ENDED, USUAL_LIMIT, Moment, Program, Reply, Skipped
 
 # After so many seconds a file that is not there, or empty, is so: no editor is just saving it. After so many a file that is written in place has all.
 GONE, QUIET = 1, 0.05
@@ -212,12 +212,14 @@ class Bench(Stage):
         # (what it changes is seen by the stems before and after it, but for an edit of what is the mark)
         is_asked = has_own and bool(self.changes or self.program.now.words != self.program.marked.words)
         history, *stems, reply = self.program.ask_each([["history"], *[["stems"]] * is_asked, lines])
-        if word == "reload" and reply.state == DONE and reply.refusal() != BROKEN_OFF:
-            self.refused_text = read if reply.refusal() else None
-        if not reply.is_done:
-            return Edit(word, self.settled(reply), self.changes)
-        self.on_accepted()
-        return self.edited(Edit(word, reply), lines, rows.read("history", history.lines), had_fault, [reply.lines for reply in stems])
+        if reply.is_done:
+            self.on_accepted()
+            edit = self.edited(Edit(word, reply), lines, rows.read("history", history.lines), had_fault, [reply.lines for reply in stems])
+        else:
+            edit = Edit(word, self.settled(reply), self.changes)
+        if word == "reload":
+            self.refused_text = None if edit.reply.is_done else read
+        return edit
 
     def edited(self, edit: Edit, lines: Sequence[str], history: Sequence[Any], had_fault: bool, before_it: Sequence[List[str]]) -> Edit:
         """Completes an accepted edit: what it changed, by the stems before it, if these are known; and what became of the texts before it."""
