@@ -1,6 +1,6 @@
 #!/usr/bin/env python3
 """The program of dist/, and three commands that it has not: `say N M` writes N bytes to standard error and a row of M bytes, `sleep` takes a
-minute, and `die` ends it."""
+minute, and `die` ends it. SLOW=COMMAND:SECONDS delays the reply to a command once after each edit."""
 import os
 import subprocess
 import sys
@@ -12,10 +12,14 @@ BLOCKS, OPEN_BLOCKS, END = (b"routine", b"among", b"grouping"), (b"replace\n", b
 
 def serve(words):
     real = subprocess.Popen([REAL, *words], stdin=subprocess.PIPE, stdout=subprocess.PIPE)
-    is_in_block = False
+    is_in_block, (slow, _, seconds), is_edited = False, os.environ.get("SLOW", "").partition(":"), False
     for line in sys.stdin.buffer:
         word, *sizes = line.split()[:3] or [b""]
         is_in_block = (is_in_block or line.split(b" ")[0] in BLOCKS or line in OPEN_BLOCKS) and line != b".\n"
+        if is_edited and word == slow.encode():
+            time.sleep(float(seconds))
+            is_edited = False
+        is_edited = is_edited or line == b".\n" or word == b"reload"
         if word == b"say":
             sys.stderr.write("e" * int(sizes[0]) + "\n")
             sys.stderr.flush()

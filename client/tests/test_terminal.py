@@ -603,6 +603,62 @@ class Traps(Case):
         self.assertLess(time.monotonic() - begin, 8)
         self.assertIn("w1: w1", terminal.type("1\r"))
 
+    def test_ctrl_c_in_a_summary_leaves_out_its_rest(self):
+        """The edit was accepted: what was typed and `undo` are as they would be without it, and the program goes on."""
+        for command in ("changes", "places"):
+            with self.subTest(command):
+                terminal = self.begin("my.sbl", "my.words", program=FAKE, SLOW=command + ":1")
+                terminal.enter("routine plural", "true", ".", "routine long", "true", ".")
+                running = terminal.processes()
+                terminal.send("among ending 1\ramong ( 'al' (delete) )\r.\r")
+                terminal.got(None, 0.5)
+                shown = terminal.type("\x03", rb"mark[^\n]*\n(.|\n)*> $")
+                self.assertIn("The rest of the summary is left out.\n", shown)
+                self.assertRegex(shown, "since the mark( .this edit changed none.)?\n> $")
+                self.assertEqual(terminal.processes(), running)
+                done = ["   1  made        routine plural", "   2  made        routine long", "   3  made        among ending 1"]
+                self.assertEqual(terminal.enter("history").split("\n"), done)
+                self.assertIn("taken back: among ending 1", terminal.enter("undo"))
+                self.assertIn("plural as true", terminal.enter("script"))
+                self.assertIn("in no file", terminal.enter("quit"))
+
+    def test_a_summary_that_has_to_be_ended_keeps_the_steps_of_undo(self):
+        """After a second Ctrl-C the program is started again, and makes each edit again; also after a kill, and over a reload and a mark."""
+        terminal = self.begin("my.sbl", "my.words", program=FAKE, SLOW="places:60")
+        terminal.send("routine plural\rtrue\r.\r")
+        for i in range(2):
+            terminal.got(None, 0.7)
+            terminal.send("\x03")
+        shown = terminal.got(rb"mark[^\n]*\n(.|\n)*> $")
+        self.assertIn("It was broken off. The program is started again with the current script.\nThe rest of the summary is left out.\n3 words", shown)
+        self.assertEqual(terminal.enter("history"), "   1  made        routine plural")
+        self.assertIn("taken back: routine plural; no word", terminal.enter("undo"))
+        terminal = self.begin("my.sbl", "my.words")
+        terminal.enter("routine plural", "true", ".", "limit 2000", "add hundo", "mark", "among ending 1", "among ( 'al' (delete) )", ".", "undo", "redo")
+        terminal.save(AUTHOR + "// new\n")
+        self.assertIn("replaced: plural, ending (undo brings them back)", terminal.enter(""))
+        before = [terminal.enter(line) for line in ("history", "changes", "text", "stems", "limit")]
+        for number in terminal.processes()[1:]:
+            os.kill(number, signal.SIGKILL)
+        self.assertIn("The program is started again with the current script.\n", terminal.enter("history"))
+        self.assertEqual([terminal.enter(line) for line in ("history", "changes", "text", "stems", "limit")], before)
+        self.assertEqual(len(before[0].split("\n")), 4)
+        self.assertIn("taken back: the whole script", terminal.enter("undo"))
+        self.assertIn("taken back: among ending 1", terminal.enter("undo"))
+
+    def test_a_script_whose_reload_was_broken_off_is_not_overwritten_at_once(self):
+        loop = AUTHOR.replace("define long as test hop 5", "define long as repeat true")
+        terminal = self.begin("my.sbl", "my.words", list="".join("w%dal\n" % i for i in range(3000)))
+        terminal.save(loop)
+        terminal.send("\r")
+        terminal.got(None, 0.3)
+        self.assertIn("It was broken off. Nothing changed.", terminal.type("\x03"))
+        said = "my.sbl has a text that was refused. Nothing was written: correct it there and press Enter, or save my.sbl again overwrites it."
+        self.assertEqual(terminal.enter("save my.sbl"), said)
+        with open(os.path.join(self.folder, "my.sbl")) as file:
+            self.assertEqual(file.read(), loop)
+        self.assertEqual(terminal.enter("save my.sbl"), "saved in my.sbl")
+
     def test_the_program_is_killed(self):
         terminal = self.begin()
         terminal.enter("routine plural", "true", ".")
@@ -638,6 +694,39 @@ class Traps(Case):
                 self.assertIn("3 words, 3 split", again.enter("rescue"))
                 self.assertIn("plural as true", again.enter("script"))
                 self.assertIn("in no file", again.enter("quit"))
+
+    def test_a_rescue_over_a_script_that_has_changed(self):
+        """It says what the rescued text lacks, and the first save asks, also after undo and redo, and after a second rescue."""
+        terminal, other = self.begin(), AUTHOR.replace("hop 5", "hop 4") + "// a comment\n"
+        self.assertIn("define long as test hop 5", AUTHOR)
+        terminal.enter("routine plural", "true", ".")
+        for lines in (["rescue", "undo", "redo"], ["rescue"]):
+            os.kill(terminal.child, signal.SIGHUP)
+            self.assertEqual(terminal.ended(), 1)
+            terminal.save(other)
+            terminal = self.terminal(self.folder)
+            terminal.got()
+            shown = terminal.enter(lines[0])
+            said = "my.sbl has changed since these edits were typed: the text of then comes back, without the changes of long.\n"
+            self.assertIn(said, shown)
+            terminal.enter("stats", *lines[1:])
+            said = "my.sbl has a change that the current script lacks. Nothing was written: Enter reads it again, save my.sbl again overwrites it."
+            self.assertEqual(terminal.enter("save my.sbl"), said)
+            terminal.enter("among ending 1", "among ( 'x' )", ".")
+            self.assertEqual(terminal.enter("save my.sbl"), said)
+            with open(os.path.join(self.folder, "my.sbl")) as file:
+                self.assertEqual(file.read(), other)
+        self.assertEqual(terminal.enter("save my.sbl", "save my.sbl"), "saved in my.sbl")
+
+    def test_a_rescue_over_a_script_that_has_not_changed(self):
+        terminal = self.begin()
+        terminal.enter("routine plural", "true", ".")
+        os.kill(terminal.child, signal.SIGHUP)
+        self.assertEqual(terminal.ended(), 1)
+        terminal = self.terminal(self.folder)
+        terminal.got()
+        self.assertNotIn("has changed", terminal.enter("rescue"))
+        self.assertEqual(terminal.enter("save my.sbl"), "saved in my.sbl")
 
     def test_two_works_leave_edits_behind(self):
         first = self.begin()

@@ -6,7 +6,7 @@ from typing import Any, Callable, Dict, List, NamedTuple, Optional, Sequence, Se
 from . import rows
 from .kept import FileState, Kept, is_same, read_file, state_of, write_file
 from .places import LARGEST, Places
-from .program import BROKEN, BROKEN_OFF, DONE, ENDED, USUAL_LIMIT, Moment, Program, Reply
+from .program import BROKEN, DONE, ENDED, USUAL_LIMIT, Moment, Program, Reply, Skipped
 
 # After so many seconds a file that is not there, or empty, is so: no editor is just saving it. After so many a file that is written in place has all.
 GONE, QUIET = 1, 0.05
@@ -91,11 +91,13 @@ class Bench(Stage):
     def __init__(self, command: Sequence[str], script: str, words: Optional[str], kept: Kept):
         super().__init__(Program(command, script, words, kept.room), script, words)
         self.kept, self.is_waiting, self.size = kept, True, 0
-        self.on_restart: Callable[[Reply], None] = lambda reply: None
+        # (called before the program begins again, and after that without a reply if `undo` lacks steps)
+        self.on_restart: Callable[[Optional[Reply]], None] = lambda reply: None
         # (called after an edit was accepted, and before it is asked what that changed)
         self.on_accepted: Callable[[], None] = lambda: None
-        # The states of the files that were written here; the bytes of a text of SCRIPT that was refused; whether undo took back what SCRIPT has.
-        self.written, self.refused_text, self.is_older = {}, None, False  # type: Dict[str, FileState], Optional[bytes], bool
+        # The states of the files that were written here; the bytes of a text of SCRIPT that was refused; by the hash of a text of which one of SCRIPT
+        # it goes on from.
+        self.written, self.refused_text, self.bases = {}, None, {}  # type: Dict[str, FileState], Optional[bytes], Dict[int, Optional[bytes]]
         # The texts that were read, by their hashes; by the hash of a text that was saved to SCRIPT, or that a reload replaced, what SCRIPT had before.
         self.read_texts, self.replaced = set(), {}  # type: Set[int], Dict[int, bytes]
         # The texts that a reload replaced, with the names of their edits; the words that were added; what differs from the mark; families.
@@ -115,7 +117,7 @@ class Bench(Stage):
         return reply
 
     def note_file(self) -> None:
-        self.file_text, self.is_older = self.program.now.text, False
+        self.file_text = self.base = self.bases[hash(self.program.now.text)] = self.program.now.text
 
     def look(self, *paths: str) -> None:
         """Notes files as they are now, all without names: they are read next."""
@@ -181,13 +183,23 @@ class Bench(Stage):
             self.families, self.pairs = (argument, found) if found and found[0].within != "0" else ("", ())
         if word in ("add", "remove", "words", "append"):
             self.kept.note("added", self.added)
+        if word in ("add", "remove", "words", "mark"):
+            program.note([line])
 
     def settled(self, reply: Reply) -> Reply:
         """After a program that is gone: begins it again. The state of the reply stays; it is `lost` if that fails."""
+        program, count = self.program, len(self.program.steps)
         if reply.state == DONE:
             return reply
+        was_summing, program.is_summing = program.is_summing, False
         self.on_restart(reply)
-        return reply if self.program.begin_anew() else reply._replace(state="lost")
+        if not program.begin_anew():
+            return reply._replace(state="lost")
+        if len(program.steps) < count:
+            self.on_restart(None)
+        if was_summing:
+            raise Skipped
+        return reply
 
     # Editing
 
@@ -200,27 +212,35 @@ class Bench(Stage):
         # (what it changes is seen by the stems before and after it, but for an edit of what is the mark)
         is_asked = has_own and bool(self.changes or self.program.now.words != self.program.marked.words)
         history, *stems, reply = self.program.ask_each([["history"], *[["stems"]] * is_asked, lines])
-        if word == "reload" and reply.state == DONE and reply.refusal() != BROKEN_OFF:
-            self.refused_text = read if reply.refusal() else None
-        if not reply.is_done:
-            return Edit(word, self.settled(reply), self.changes)
-        self.on_accepted()
-        return self.edited(Edit(word, reply), lines[0], rows.read("history", history.lines), had_fault, [reply.lines for reply in stems])
+        if reply.is_done:
+            self.on_accepted()
+            edit = self.edited(Edit(word, reply), lines, rows.read("history", history.lines), had_fault, [reply.lines for reply in stems])
+        else:
+            edit = Edit(word, self.settled(reply), self.changes)
+        if word == "reload":
+            self.refused_text = None if edit.reply.is_done else read
+        return edit
 
-    def edited(self, edit: Edit, command: str, history: Sequence[Any], had_fault: bool, before_it: Sequence[List[str]]) -> Edit:
+    def edited(self, edit: Edit, lines: Sequence[str], history: Sequence[Any], had_fault: bool, before_it: Sequence[List[str]]) -> Edit:
         """Completes an accepted edit: what it changed, by the stems before it, if these are known; and what became of the texts before it."""
         program, before, word = self.program, self.program.now, edit.command
         families = [["families " + self.families]] if self.families else []
-        changes, steps, stems, *pairs = program.ask_each([["changes"], ["history"], ["stems" if before_it else "echo"], *families])
-        text = program.text()
-        if text is None:
+        told, steps = program.ask_each([["text", "echo"], ["history"]], has_grace=True)
+        text = program.text(told)
+        if text is None or not steps.is_done:
             return edit._replace(reply=self.settled(Reply(program.state if program.state != DONE else BROKEN, [], [])))
         done = rows.read("history", steps.lines)
         kind, at = ("undone", 0) if word == "undo" else ("done", -1)
         step = ([row for row in done if row.kind == kind] or [None])[at]
         limits = [USUAL_LIMIT, *(row.rest[0] for row in done if row.kind == "done" and row.command == "limit")]
         program.now = before._replace(text=text, limit=limits[-1] if step and step.command == "limit" else before.limit)
-        if word == "replace" and " " in command and not command.startswith("replace " + self.kept.folder):
+        program.note(lines, program.took)
+        changes, stems, *pairs = program.ask_each([["changes"], ["stems" if before_it else "echo"], *families], has_grace=True)
+        if program.state != DONE:
+            # (the program that is there again has made this edit, too)
+            there = self.settled(Reply(program.state, [], []))
+            edit, changes = edit._replace(reply=there) if there.state == "lost" else edit, program.ask(["changes"])
+        if word == "replace" and " " in lines[0] and not lines[0].startswith("replace " + self.kept.folder):
             # (another file has this text)
             self.read_texts.add(hash(text))
         elif word not in ("reload", "undo", "redo") and text not in (before.text, self.file_text):
@@ -230,9 +250,9 @@ class Bench(Stage):
         found = pairs_of(*pairs)
         figures, self.pairs = (*(self.pairs or found), *found) if found else (), found or self.pairs
         return edit._replace(
-            changes=self.changes, own=rows.between(before_it[0], stems.lines) if before_it else None,
+            changes=self.changes, own=rows.between(before_it[0], stems.lines) if before_it and stems.is_done else None,
             pairs=figures, step=step if word in ("undo", "redo") else None,
-            note=self.note_on(word, before, had_fault, done == history), aside=self.note_text(word, before, history),
+            note=self.note_on(word, before, had_fault, done == history), aside=self.note_text(word, before, history, done),
         )
 
     def note_on(self, word: str, before: Moment, had_fault: bool, is_not_held: bool) -> str:
@@ -247,33 +267,42 @@ class Bench(Stage):
             return "the same limit" if is_same else "limit"
         return "the same script" if word not in ("undo", "redo", "reload") and is_same else ""
 
-    def note_text(self, word: str, before: Moment, history: Sequence[Any]) -> Optional[Tuple[str, ...]]:
+    def note_text(self, word: str, before: Moment, history: Sequence[Any], done: Sequence[Any]) -> Optional[Tuple[str, ...]]:
         """Notes which texts files have. Returns the names of the typed edits that a reload replaced."""
-        text, aside = self.program.now.text, None
-        self.is_older = text != self.file_text and (self.is_older or word == "undo" and before.text == self.file_text)
+        text, aside, base, former = self.program.now.text, None, self.base, self.file_text or b""
+        self.base = self.file_text if text == self.file_text else self.bases.setdefault(hash(text), base)
         if word == "undo" and before.text != text:
             # (what was replaced and undo takes back, the author drops)
             self.aside = [(other, names) for other, names in self.aside if other != before.text]
         if word == "reload":
-            base = self.file_text or b""
             self.note_file()
             if before.text != text and self.is_unsaved(before.text) and not self.has_saved(before.text, text):
                 aside = typed_names(history)
                 self.aside.append((before.text, aside))
-                self.replaced.setdefault(hash(before.text), base)
+                self.replaced.setdefault(hash(before.text), former)
+                self.kept.keep("aside.base", base or b"")
                 self.kept.keep("aside", before.text)
             self.read_texts.add(hash(text))
-        self.keep()
+        self.keep(done)
         return aside
 
-    def keep(self) -> None:
+    def keep(self, history: Sequence[Any]) -> None:
         """Keeps what was typed for the case that the terminal is closed: the room has the current text, and the last one that was replaced."""
         text, aside = self.program.now.text, self.put_aside()
         if self.is_unsaved(text):
+            self.kept.keep("text.base", self.base or b"")
             self.kept.keep("text", text)
-            self.kept.note("about", ["text", *(typed_names(self.read("history")) or ["a part of the script"])])
+            self.kept.note("about", ["text", *(typed_names(history) or ["a part of the script"])])
         else:
             self.kept.note("about", ["aside", *aside] if aside else [])
+
+    def note_rescue(self, path: str, base: Optional[bytes]) -> Optional[List[str]]:
+        """Notes a text that is going to be rescued. If SCRIPT had another text when it was typed, returns what it has now and had not then."""
+        if base is None or base == self.file_text:
+            return None
+        self.bases[hash(read_file(path))] = base
+        places = self.places()
+        return [name for name, row in places.definitions.items() if places.text[int(row.start) : int(row.end)] not in base]
 
     # Files
 
@@ -296,10 +325,10 @@ class Bench(Stage):
             ("no folder", not os.path.isdir(folder)),
             ("folder", os.path.isdir(path)),
             ("closed", not os.access(path if is_there else folder, os.W_OK)),
-            ("gone?", is_own and not is_there),
+            ("gone?", is_own and not is_there and self.script not in self.gone),
             ("gone", is_append and path == self.words and not os.path.lexists(path)),
             ("refused?", is_own and is_refused),
-            ("undone?", is_own and self.is_older and self.script not in self.saved()),
+            ("older?", is_own and self.base != self.file_text and self.script not in self.saved()),
             ("there", not is_new and is_report and not os.path.isfile(path)),
             ("again?", is_other and not is_save),
             ("there", is_other and name not in self.written),
@@ -320,7 +349,7 @@ class Bench(Stage):
                 if self.file_text not in (None, self.program.now.text):
                     self.replaced[hash(self.program.now.text)] = self.file_text or b""
                 self.note_file()
-            self.keep()
+            self.keep(self.read("history"))
         return reply
 
 

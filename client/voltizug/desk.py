@@ -5,13 +5,13 @@ from collections import Counter
 from typing import Any, Dict, List, Optional, Sequence
 
 from . import faults, kept, layout, lints, loops, rows, warn, words
-from .bench import Bench
+from .bench import Bench, Edit
 from .commands import BLOCKS, COMMENT, DECLARATION, OPEN_BLOCKS
 from .completion import Completion
 from .keys import Editor, Hangup
 from .layout import counted, in_words, short, sizes
 from .options import CALLED, Options
-from .program import BROKEN, BROKEN_OFF, DONE, ENDED, ROWS, Reply
+from .program import BROKEN, BROKEN_OFF, DONE, ENDED, ROWS, Reply, Skipped
 from .screen import Screen
 
 # After so many lines, one after another, that are no command and came faster than one types, the rest is dropped.
@@ -146,6 +146,7 @@ class Desk:
 
     def tell_long(self) -> None:
         ends = "ends it" if self.bench.is_waiting and not self.has_waited else "breaks it off"
+        ends = "leaves out the rest of the summary" if self.bench.program.is_summing else ends
         how = "" if self.bench.program.is_deaf else "Ctrl-C %s. " % ends
         loops = "It may be that the script loops." if self.bench.is_waiting else 'If the script loops, "limit 1000" lets each run end sooner.'
         self.screen.say("This takes long. %s%s" % (how, loops))
@@ -163,12 +164,15 @@ class Desk:
         self.screen.say("The last command was not done: type it again." * (reply.state == ENDED))
         return reply.state == DONE
 
-    def tell_restart(self, reply: Reply) -> None:
+    def tell_restart(self, reply: Optional[Reply]) -> None:
         self.editor.is_interrupted = False
+        if reply is None:
+            count = len(self.bench.program.steps) - 1
+            return self.screen.say("For undo all edits%s are one now." % (" but the last %d" % count if count else ""))
         status = self.bench.program.stop() or 0
         how = ", by signal %d" % -status if status < 0 else " with status %s" % status
         why = "The program was ended from outside%s." % how if reply.state == ENDED else "It was broken off."
-        self.screen.say(why + " The program is started again with the current script: for undo the edits since the mark are one now.")
+        self.screen.say(why + " The program is started again with the current script.")
 
     def is_done(self, reply: Reply, line: str) -> bool:
         if self.settle(reply) and reply.refusal():
@@ -183,6 +187,9 @@ class Desk:
         if lines[0] in ("reload", "words") and code != BROKEN_OFF[0] and self.warn(self.bench.words if lines[0] == "words" else None) and code == 75:
             # (the warning says how the list becomes UTF-8)
             said = "Nothing changed."
+        if lines[0] == "reload" and not os.path.lexists(self.bench.script):
+            # (this says so)
+            self.bench.gone.add(self.bench.script)
         if lines[0] == "reload":
             said = "Nothing changed. " + self.correction(self.bench.script) if code == 48 else said
         elif code == 48 and not reply.said:
@@ -240,22 +247,37 @@ class Desk:
         if not edit.reply.is_done:
             self.screen.say(self.note_words())
             return False
-        if is_reload:
-            self.warn()
         self.own = edit.changes if edit.own is None else edit.own
         # (an edit that leads back to the mark has its rows in "last" alone)
-        own = self.own if edit.changes else []
-        refused = [row for row in own if row.kind == "changed" and row.new_kind == "refused"]
-        worst = next((row.word for row in refused if row.new in loops.NAMES), refused[0].word if refused else "")
-        tail = [*(self.new_lints() if is_reload or edit.command in (*BLOCKS, *OPEN_BLOCKS) else []), loops.ending(worst, self.bench) if refused else ""]
+        own, added = self.own if edit.changes else [], {}  # type: Any, Dict[str, rows.Outcome]
+        try:
+            tail, added = self.more_on(edit, lines, own), self.added(own)
+        except Skipped:
+            own, tail = [], ["The rest of the summary is left out."]
+        finally:
+            self.bench.program.is_summing = self.editor.is_interrupted = False
         limit = counted(int(self.bench.program.now.limit), "step")
         note = words.NOTES.get(edit.note, "").format(script=short(self.bench.script), limit=limit)
         last = self.screen.broken([line for line in [*tail, note, self.note_words(), layout.families_line(edit.pairs), layout.summary(edit)] if line])
         size = self.screen.size()
         room = max(1, size.lines - len(last) - 1 - self.editor.rows_typed(size.columns))
-        found = layout.changes(own, self.added(own), room, '"last" shows all')
+        found = layout.changes(own, added, room, '"last" shows all')
         self.screen.write([layout.cut(layout.named(line), size.columns) for line in found] + last)
         return True
+
+    def more_on(self, edit: Edit, lines: Sequence[str], own: Sequence[Any]) -> List[str]:
+        """Returns what is said of an accepted edit beside its figures, for which the program is asked more."""
+        self.bench.program.is_summing = True
+        if self.editor.is_interrupted:
+            raise Skipped
+        if edit.command == "reload":
+            self.warn()
+        refused = [row for row in own if row.kind == "changed" and row.new_kind == "refused"]
+        worst = next((row.word for row in refused if row.new in loops.NAMES), refused[0].word if refused else "")
+        tail = self.new_lints() if edit.command in ("reload", *BLOCKS, *OPEN_BLOCKS) else []
+        typed = "\n".join(lines[1:-1])
+        tail += warn.on_typed(lines[0], typed, self.bench.by_word()) if not typed.isascii() else []
+        return [*tail, loops.ending(worst, self.bench) if refused else ""]
 
     def added(self, changes: Sequence[Any]) -> Dict[str, rows.Outcome]:
         return self.bench.by_word() if any(row.kind == "added" for row in changes) else {}

@@ -12,8 +12,11 @@ from typing import IO, List, NamedTuple, Optional, Sequence, Tuple
 LARGEST, YOUNG = 1 << 26, 60
 
 FileState = Optional[Tuple[int, int, int]]
-# What was left behind: the folder, the file in it that has the text with typed edits, their names, added words, and lines of an open block.
-Left = NamedTuple("Left", [("room", str), ("path", str), ("edits", List[str]), ("words", List[str]), ("block", List[str])])
+# What was left behind: the folder, the file in it that has the text with typed edits, their names, added words, lines of an open block, and the text
+# of SCRIPT that the edits were typed over.
+Left = NamedTuple("Left", [
+    ("room", str), ("path", str), ("edits", List[str]), ("words", List[str]), ("block", List[str]), ("base", Optional[bytes])
+])
 
 
 class Kept:
@@ -54,7 +57,7 @@ class Kept:
                 edits, added, block = (text.decode("utf-8", "surrogateescape").split("\n") for text in texts)
                 if self.script in (edits[0], added[0], block[0]):
                     path = os.path.join(entry.path, edits[1]) if edits[1:] else ""
-                    found.append((entry.stat().st_mtime, Left(entry.path, path, edits[2:], added[1:], block[1:])))
+                    found.append((entry.stat().st_mtime, Left(entry.path, path, edits[2:], added[1:], block[1:], read_file(path + ".base"))))
                 elif not any(texts) and entry.stat().st_mtime < time.time() - YOUNG:
                     self.forget(entry.path)
         return [left for _, left in sorted(found)]

@@ -9,11 +9,14 @@ from .bench import Bench
 from .conditions import BODY
 from .editor.names import Names
 from .layout import counted, in_words, named, short
+from .near import composed
 from .places import LARGEST, Places
 from .rows import Outcome, Token
 
 # (of few words most letters are missing)
 MOST, FEW, MANY = 5, 50, 5000
+# Runs are not counted for a summary if so many steps would be made again that led to no stem.
+COSTLY = 10**7
 # From this length on the letters of a macro count, and not their order.
 LONG = 100
 # A literal after one of these is put into the text.
@@ -277,7 +280,9 @@ def unset_integers(script: Script) -> Iterable[Lint]:
 def strange_strings(script: Script, outcomes: Sequence[Outcome]) -> Iterable[Lint]:
     """The strings of amongs with a letter that no word has and no command puts in."""
     there = set().union(*put_in(script.tokens), *(row.word + row.stem * (row.kind == "stem") for row in outcomes))  # type: Set[str]
-    for (_, _, string), row in script.places.entries.items() if outcomes else ():
+    entries = [(string, row) for (_, _, string), row in script.places.entries.items() if outcomes and set(string) - there]
+    # (of those in another form of Unicode a warning speaks once)
+    for string, row in [(string, row) for string, row in entries if len(composed(string)) == len(string)]:
         strange = list(map(letter, sorted(set(string) - there)))
         if strange:
             yield int(row.start), "'%s' has %s, which no word has and no command puts in" % (short(string), in_words(strange, "and", 6))
@@ -358,9 +363,10 @@ def lints(bench: Bench, has_all: bool = False) -> List[str]:
     outcomes = bench.outcomes() if sees_words else []
     looks = (misused, unset_slices, bare_commands, plain_braces, late_takings, half_done, idle_amongs, unset_integers, undefined)
     found = [lint for look in looks for lint in look(script)]
-    found += stopping_calls(script, bench, [start for start, _ in found]) if sees_words else []
+    sees_runs = has_all or int(bench.program.now.limit) * sum(row[1:] == ("refused", "Steps") for row in outcomes) <= COSTLY
+    found += stopping_calls(script, bench, [start for start, _ in found]) if sees_words and sees_runs else []
     found += strange_strings(script, outcomes) if has_all or bench.size >= FEW else []
-    found += wrong_ways(script, bench, outcomes) if outcomes and script.places.entries else []
+    found += wrong_ways(script, bench, outcomes) if outcomes and script.places.entries and sees_runs else []
     beyond = [token for token in script.tokens if has_all and token.kind == "literal" and not token.text.isascii()]
     others = " (and {})".format(counted(len(beyond) - 1, "more literal")) if len(beyond) > 1 else ""
     found += [(token.start, "%s has a letter beyond ASCII%s: other compilers ask for a stringdef" % (short(token.text), others)) for token in beyond[:1]]

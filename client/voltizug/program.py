@@ -5,11 +5,14 @@ import re
 import selectors
 import subprocess
 import time
+from itertools import accumulate
 from typing import IO, Callable, List, NamedTuple, Optional, Sequence, Tuple
 
+from .kept import write_file
+
 # After how many seconds a request is said to take long; how often it is looked at the time meanwhile; how long an edit may take to break off;
-# the most bytes of a line.
-LONG, LOOK, GRACE, LONGEST = 2.0, 0.2, 5.0, 65536
+# the most bytes of a line; how long the steps but the last one that a new start makes again may take, and how many they are.
+LONG, LOOK, GRACE, LONGEST, AGAIN, MOST = 2.0, 0.2, 5.0, 65536, 10.0, 100
 # The commands that the program breaks off itself, and how it refuses them then.
 EDITS, BROKEN_OFF = ("replace", "reload", "routine", "among", "grouping", "limit", "words", "undo", "redo"), (68, "BrokenOff")
 USUAL_LIMIT = "100000"
@@ -44,6 +47,14 @@ class Moment(NamedTuple):
     stems: str = ""
 
 
+# An accepted command: its lines, how many seconds it took, and the current state and that of the mark after it.
+Step = NamedTuple("Step", [("lines", Sequence[str]), ("seconds", float), ("now", Moment), ("marked", Moment)])
+
+
+class Skipped(Exception):
+    """Ctrl-C came after an edit was accepted: what is left of its summary is left out."""
+
+
 class Memory:
     """A file in memory, which a program that is started later reads by its name."""
 
@@ -71,6 +82,10 @@ class Program:
         self.mark = "end of answer %d-%s" % (os.getpid(), os.urandom(8).hex())
         self.process: Optional[subprocess.Popen] = None
         self.now = self.marked = Moment()
+        # What was done since the start, or since what a new start made one step, with the state before it; how many seconds the last request took.
+        self.steps, self.took = [], 0.0  # type: List[Step], float
+        # Whether a summary is made: it asks reports that Ctrl-C does not end; whether the bell has rung since it began.
+        self.is_summing = self.has_rung = False
         # The number of the program's rows; the command that reads SCRIPT.
         self.rows, self.reload = "", "reload"
         # (called once, or again and again while it returns False)
@@ -88,6 +103,7 @@ class Program:
         if reply.is_done:
             self.rows, self.now = hello.lines[0].rpartition(",")[2], Moment(self.text() or b"")
             self.marked, self.is_deaf = self.now, bool(self.words) and not os.path.isfile(self.words or "")
+            self.steps = [Step((), 0, self.now, self.marked)]
         return reply
 
     def begin(self, options: Sequence[str], script: str) -> None:
@@ -113,6 +129,7 @@ class Program:
 
     def break_off(self) -> None:
         """Breaks off the request that runs; a handler of signals may call it."""
+        self.has_rung = True
         with contextlib.suppress(BlockingIOError):
             os.write(self.bell[1], b"!")
 
@@ -131,29 +148,37 @@ class Program:
     def ask(self, lines: Sequence[str], patience: Optional[float] = None) -> Reply:
         return self.ask_each([lines], patience)[0]
 
-    def ask_each(self, requests: Sequence[Sequence[str]], patience: Optional[float] = None, is_deaf: bool = False) -> List[Reply]:
-        """Sends requests at once and returns the reply of each. If the program is gone, the last ones say why. Nothing breaks a deaf one off."""
+    def ask_each(self, requests: Sequence[Sequence[str]], patience: Optional[float] = None, has_grace: bool = False) -> List[Reply]:
+        """Sends requests at once and returns the reply of each. If the program is gone, the last ones say why. After the bell edits have some time
+        to break off, and reports to end: those of a summary, after which it goes no further, and others that ask for it."""
         if self.process is None or not requests:
             return [Reply(ENDED, [], [])] * len(requests)
         if any(len(encoded(line)) > LONGEST for lines in requests for line in lines):
             return [Reply(DONE, ["no 72 LineTooLong"], [])] * len(requests)
         sent = "".join("%s\n" % line for lines in requests for line in [*lines, "echo " + self.mark])
         self.hush()
-        grace = GRACE if self.stop_path and requests[-1][0].partition(" ")[0] in EDITS else 0
-        self.state, out, said = self.exchange(encoded(sent), len(requests), patience, is_deaf or self.is_deaf, grace)
+        self.has_rung = self.has_rung and self.is_summing
+        if self.has_rung:
+            raise Skipped
+        is_edit, begin = bool(self.stop_path) and requests[-1][0].partition(" ")[0] in EDITS, time.monotonic()
+        grace = GRACE if is_edit or has_grace or self.is_summing else 0
+        self.state, out, said = self.exchange(encoded(sent), len(requests), patience, grace)
+        self.took = time.monotonic() - begin if is_edit else self.took
         if self.state in (BROKEN, LATE):
             self.stop()
+        if self.state == DONE and self.has_rung and self.is_summing:
+            raise Skipped
         answers = out.split(encoded(self.mark + "\n"))[:-1]
         replies = [Reply(DONE, lines_of(answer), lines_of(said)) for answer in answers]
         return replies + [Reply(self.state, [], lines_of(said))] * (len(requests) - len(answers))
 
-    def exchange(self, sent: bytes, wanted: int, patience: Optional[float], is_deaf: bool, grace: float) -> Tuple[str, bytearray, bytearray]:
-        """Sends bytes and takes what comes, up to so many marks. Returns how that ended, and what came from both pipes. After the bell an edit may
-        take so many seconds to break off, or until the bell rings again."""
+    def exchange(self, sent: bytes, wanted: int, patience: Optional[float], grace: float) -> Tuple[str, bytearray, bytearray]:
+        """Sends bytes and takes what comes, up to so many marks. Returns how that ended, and what came from both pipes. After the bell it goes on for
+        so many seconds, or until the bell rings again."""
         process, mark, begin = self.process, b"%s\n" % self.mark.encode(), time.monotonic()
         left, out, said, state, on_long, rung = memoryview(sent), bytearray(), bytearray(), "", self.on_long, 0.0
         with selectors.DefaultSelector() as selector:
-            for stream in (process.stdout, process.stderr, *([] if is_deaf else [self.bell[0]])):
+            for stream in (process.stdout, process.stderr, *([] if self.is_deaf else [self.bell[0]])):
                 selector.register(stream, selectors.EVENT_READ)
             selector.register(process.stdin, selectors.EVENT_WRITE)
             while not state:
@@ -202,34 +227,49 @@ class Program:
         finally:
             other.stop()
 
-    def text(self) -> Optional[bytes]:
-        """Returns the current text, byte for byte as `save` writes it; nothing if that is broken off."""
+    def text(self, reply: Optional[Reply] = None) -> Optional[bytes]:
+        """Returns the current text, byte for byte as `save` writes it; nothing if that is broken off. It may have been asked for already."""
         # (it may lack its last line feed)
-        reply = self.ask(["text", "echo"])
+        reply = reply or self.ask(["text", "echo"])
         return encoded("\n".join(reply.lines)) if reply.is_done else None
 
-    def begin_anew(self) -> bool:
-        """Begins again with the mark and the current text, after the program was broken off or killed. What was done since the mark is one step
-        of undo. Returns whether all is there again. If SCRIPT is gone, a copy is in its place."""
-        return self.goes_on(self.script, "reload") or self.goes_on(self.copy_path, "replace " + self.script)
+    def note(self, lines: Sequence[str], seconds: float = 0) -> None:
+        """Notes an accepted command, after what it changed."""
+        self.steps = [*self.steps[-MOST:], Step(lines, seconds, self.now, self.marked)]
 
-    def goes_on(self, script: str, reload: str) -> bool:
-        marked, now, self.reload, paths = self.marked, self.now, reload, (self.copy_path, self.copy_path + ".now")
+    def begin_anew(self) -> bool:
+        """Begins again, after the program was broken off or killed: makes the last steps again one by one, as many as take little time, after one
+        step for all before them. Returns whether all is there again. If SCRIPT is gone, a copy is in its place."""
+        now, was_deaf, self.is_deaf = Step((), 0, self.now, self.marked), self.is_deaf, True
+        count = sum(passed <= AGAIN for passed in accumulate(step.seconds for step in self.steps[-2:0:-1]))
+        ways = [(last, *way) for last in (self.steps[-2 - count :], [now]) for way in ((self.script, "reload"), (self.copy_path, "replace " + self.script))]
+        is_there = any(self.goes_on(*way) for way in ways)
+        self.is_deaf = was_deaf
+        return is_there
+
+    def goes_on(self, steps: List[Step], script: str, reload: str) -> bool:
+        """Begins with the state of the first one of some steps, and makes the others again."""
+        (_, _, now, marked), self.reload, self.steps = steps[0], reload, steps
         # (after `words` the vocabulary began anew)
         is_longer = now.words[: len(marked.words)] == marked.words
-        requests = ["limit " + marked.limit, *marked.words, "mark " + marked.stems if marked.stems else "mark"]
-        requests += ["replace " + paths[1]] if now.text != marked.text else []
-        requests += ["limit " + now.limit, *(now.words[len(marked.words) :] if is_longer else ["words", *now.words])]
+        requests = [["limit " + marked.limit], *([line] for line in marked.words), ["mark " + marked.stems if marked.stems else "mark"]]
+        requests += [["replace " + self.copied(now.text, ".now")]] if now.text != marked.text else []
+        requests += [["limit " + now.limit], *([line] for line in (now.words[len(marked.words) :] if is_longer else ["words", *now.words]))]
+        for i, step in enumerate(steps[1:]):
+            is_whole = step.lines[0].partition(" ")[0] in ("reload", "replace")
+            requests += [["replace " + self.copied(step.now.text, ".%d" % i)] if is_whole else list(step.lines)]
         try:
-            for path, text in zip(paths, (marked.text, now.text)):
-                with open(path, "wb") as file:
-                    file.write(text)
-            self.begin(["--from", paths[0]], script)
+            self.begin(["--from", self.copied(marked.text)], script)
         except OSError:
             return False
         # (WORDS may have changed: a word that was added is there already, or one that was taken out is not)
-        replies = self.ask_each([[line] for line in requests], is_deaf=True)
-        return all(reply.is_done or reply.lines in (["no 40 Present"], ["no 41 Absent"]) for reply in replies)
+        is_there = [reply.is_done or reply.lines in (["no 40 Present"], ["no 41 Absent"]) for reply in self.ask_each(requests)]
+        return all(is_there) and self.text() == self.now.text and (steps[-1].now, steps[-1].marked) == (self.now, self.marked)
+
+    def copied(self, text: bytes, ending: str = "") -> str:
+        """Returns the path of a copy of a text."""
+        write_file(self.copy_path + ending, text)
+        return self.copy_path + ending
 
 
 def in_memory(words: Sequence[str]) -> List[int]:

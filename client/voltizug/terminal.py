@@ -15,6 +15,7 @@ from .conditions import with_tests
 from .desk import Desk
 from .keys import Broken, Dropped, Hangup
 from .layout import counted, in_words, short
+from .near import composed, meant
 from .places import BOM, readable
 from .program import DONE, encoded
 
@@ -65,6 +66,8 @@ class Terminal(Desk):
             self.screen.say(wrong)
         elif line == "families" and self.bench.families and not self.editor.pending:
             self.ask(line)
+        elif line in ("", "reload") and self.bench.script in self.bench.gone and not os.path.exists(self.bench.script):
+            self.screen.say("%s is still not there: save FILE writes the current script." % short(self.bench.script))
         elif line in ("", "reload", "undo", "redo") or command in ("limit", "replace") and argument:
             # (Enter is for what was saved)
             drops = not line and self.bench.script not in self.bench.saved() and self.bench.is_unsaved(self.bench.program.now.text)
@@ -115,8 +118,14 @@ class Terminal(Desk):
         if word != word.strip():
             at = "beginning" if word != word.lstrip() else "end"
             return ['The word that was added is "%s", with a blank at its %s. "remove %s" takes it out.' % (short(word), at, short(word))]
-        last = rows.rows_of((self.bench.known("why " + word) or ["stem,"])[-1:])[0]
-        return ["%s is added: %s" % (words.in_quotes(word, " " in word), layout.outcome(*last[:2]))]
+        last, there = rows.rows_of((self.bench.known("why " + word) or ["stem,"])[-1:])[0], set(self.bench.by_word() if not word.isascii() else []) - {word}
+        form = warn.on_typed("add " + word, word, there) if not meant(word, there).startswith(" It") else [meant(word, there).lstrip()]
+        return ["%s is added: %s" % (words.in_quotes(word, " " in word), layout.outcome(*last[:2])), *form]
+
+    def reply_find(self, text: str, lines: Sequence[str]) -> List[str]:
+        there = [row.word + "\n" + row.stem for row in self.bench.outcomes()] if not lines and not text.isascii() else []
+        other = " in this form of Unicode (NFC and NFD are different words)" * any(composed(text) in composed(names) for names in there)
+        return [reports.EMPTY["find"] + other] if not lines else reports.laid_out("find", lines, self.bench.places)
 
     def reply_remove(self, word: str, _: Sequence[str]) -> List[str]:
         is_kept = encoded(word) in kept.read_lines(self.bench.words)
@@ -212,14 +221,20 @@ class Terminal(Desk):
             self.screen.say(said, layout.figures(self.bench.changes) if path else "The mark is set: changes are counted from here.")
 
     def do_add(self, text: str) -> None:
+        self.change_words("add", text, 'Add %d words (%s)? y adds them, "one" adds one word with blanks in it, Enter adds nothing: ')
+
+    def do_remove(self, text: str) -> None:
+        is_one = " " not in text or text in self.bench.by_word()
+        self.change_words("remove", text, "" if is_one else "Remove %d words (%s)? y removes them, Enter removes nothing: ")
+
+    def change_words(self, command: str, text: str, question: str) -> None:
         parts, reply = text.split(), "one"
-        if len(parts) > 1 and not self.editor.pending:
-            prompt = 'Add %d words (%s)? y adds them, "one" adds one word with blanks in it, Enter adds nothing: '
-            reply = self.asked(prompt % (len(parts), in_words(parts, "and", 6))).lower()
+        if len(parts) > 1 and question and not self.editor.pending:
+            reply = self.asked(question % (len(parts), in_words(parts, "and", 6))).lower()
         for word in {"one": [text], "y": parts, "yes": parts}.get(reply, []):
-            self.ask("add " + word)
+            self.ask(command + " " + word)
         if reply not in ("", "one", "y", "yes"):
-            self.screen.say("Nothing was added: %s is no answer to this." % words.in_quotes(reply, True))
+            self.screen.say("Nothing was %s: %s is no answer to this." % (command.rstrip("e") + "ed", words.in_quotes(reply, True)))
 
     def asked(self, question: str) -> str:
         """Returns what is typed after a question. It is broken at blanks here: readline breaks a word."""
@@ -286,6 +301,9 @@ class Terminal(Desk):
             last = left[-1]
             for word in [word for word in last.words if word not in before]:
                 self.ask("add " + word)
+            others, script = self.bench.note_rescue(last.path, last.base), short(self.bench.script)
+            lacks = "the changes of %s" % in_words(others, "and", 5) if others else "these changes"
+            self.screen.say("%s has changed since these edits were typed: the text of then comes back, without %s." % (script, lacks) if others is not None else "")
             if {*before, *self.bench.added}.issuperset(last.words) and (not last.path or self.edit(["replace " + last.path])):
                 self.bench.kept.forget(last.room)
 

@@ -2,7 +2,7 @@
 import re
 import sys
 import unicodedata
-from typing import Any, Callable, List, Optional, Sequence, Tuple
+from typing import Any, Callable, Iterable, List, Optional, Sequence, Tuple
 
 from .kept import read_file
 from .layout import named
@@ -49,6 +49,11 @@ def on_numbers(name: str, path: str, found: Sequence[int], what: str, then: str)
     """Returns the warning on lines of these numbers: on the first one, and how many more there are."""
     others = " (and {:,} more {})".format(len(found) - 1, "line" if len(found) == 2 else "lines") if len(found) > 1 else ""
     return ["%s:%d: %s%s%s" % (name, found[0], what, others, then.format(file=in_shell(path), converting=converting(path)))] if found else []
+
+
+def on_typed(name: str, text: str, words: Iterable[str]) -> List[str]:
+    """Returns the warning on what was typed under a name in a form of Unicode that no word has."""
+    return on_lines(named(name), "FILE", text, DECOMPOSED) if DECOMPOSED[0](text) and not any(map(DECOMPOSED[0], words)) else []
 
 
 def on_several(name: str, path: str, text: str) -> List[str]:

@@ -10,7 +10,7 @@ from .bench import Bench, Stage
 from .commands import COMMANDS, NAMED, OPEN_BLOCKS, STRANGE
 from .kept import is_same, read_file, read_lines
 from .layout import counted, in_words, named, short
-from .near import folded, meant, near
+from .near import composed, folded, meant
 from .places import Places
 from .options import CALLED
 from .program import Reply, encoded
@@ -40,7 +40,7 @@ MAY_NOT: Dict[str, str] = {
     "script": "{path} has the script, and {c} does not overwrite it. Nothing was written: {other}.",
     "changed": "{path} has changed since it was read, and was not overwritten. Enter reads it again; {other} to keep both.",
     "refused?": "{path} has a text that was refused. Nothing was written: correct it there{then}, or save {path} again overwrites it.",
-    "undone?": "{path} has a change that undo took back. Nothing was written: Enter reads it again, save {path} again overwrites it.",
+    "older?": "{path} has a change that the current script lacks. Nothing was written: Enter reads it again, save {path} again overwrites it.",
     "no words": "{path} is there already, and append puts words only into the file of words or a new file.",
     "gone": "{path} is not there any more, and was not written: {other}.",
     "gone?": "{path} is not there any more (deleted or renamed). Nothing was written: save {path} again writes it anew.",
@@ -109,13 +109,11 @@ def absent(line: str, bench: Stage) -> str:
     command, _, word = line.partition(" ")
     words, form = bench.by_word(), folded(word)
     same = [other for other in words if folded(other).strip() == form.strip()]
-    found = list(map(in_quotes, same[:4])) if same else near(word, words)
-    question = " Did you mean %s?" % in_words(found, "or") if found else ""
-    if same and folded(same[0]) == form and same[0].casefold() != word.casefold():
-        question = " It is there in another form of Unicode (NFC and NFD are different words)."
+    found = list(map(in_quotes, same[:4]))
+    question = meant(word, words) if not same or composed(word) in map(composed, same) else " Did you mean %s?" % in_words(found, "or")
     if command == "class" and bench.known("stem " + word) is not None:
         return "%s is a stem and no word: stem %s shows its words." % (in_quotes(word), short(word))
-    ways = ['"why {0}" shows how it would be stemmed'] * (not found and command not in ("remove", "why"))
+    ways = ['"why {0}" shows how it would be stemmed'] * (not question and command not in ("remove", "why"))
     # (an editor, which has a Stage, adds no words)
     ways += ['"add {0}" adds it'] * (isinstance(bench, Bench) and not same and command in ("class", "trace"))
     then = " %s." % ", ".join(ways).format(short(word)) if ways and word == word.strip() else ""
@@ -289,7 +287,8 @@ def converting(path: str) -> str:
     if mark or 4 * data.count(0) > len(data):
         code = ("utf-32" if mark[1] else "utf-16") if mark else "utf-16le" if data[::2].count(0) < data[1::2].count(0) else "utf-16be"
         what = "it is " + code.upper()
-    return "If %s: iconv -f %s -t utf-8 %s > NEW. Then, if NEW is right: mv NEW %s" % (what, code, name, name)
+    other = " In another encoding put its name for latin1, such as cp1257 (iconv -l lists them)." * (code == "latin1")
+    return "If %s: iconv -f %s -t utf-8 %s > NEW.%s Then, if NEW is right: mv NEW %s" % (what, code, name, other, name)
 
 
 def early(line: str, bench: Bench) -> str:
