@@ -88,9 +88,13 @@ class Requests(Server):
         return found + [{"label": word, "kind": 14} for word in fitting if word != "NAME"]
 
     def on_codeAction(self, params: Message) -> List[Message]:
+        """The fixes of the faults in the lines of a range, those of the range itself first, and commands."""
         document = self.document(params)
         start, end = (document.text.offset(params["range"][side]) for side in ("start", "end"))
-        here = [fault for fault in document.faults if fault.start <= end and start <= fault.end][:MOST]
+        text = document.text.text + "\n"
+        first, last = text.rfind("\n", 0, start) + 1, text.index("\n", end)
+        near = [fault for fault in document.faults if fault.start <= last and (first < fault.end or first == fault.start)]
+        here = sorted(near, key=lambda fault: not (fault.start <= end and start <= fault.end))[:MOST]
         calls = [{"title": title, "command": "snowbench." + name, "arguments": [document.uri, ""]} for name, title in TITLES.items()]
         commands = [{"title": call["title"], "kind": "source", "command": call} for call in calls]
         return [action for fault in here for action in self.fixes(document, fault)] + (commands if document.vocabulary else [])
