@@ -3,9 +3,11 @@ import os
 import unittest
 from random import Random
 
+from voltizug.bench import Edit
 from voltizug.kept import read_file
 from voltizug.page.bases import merged
 from voltizug.page.live import Live, Refused
+from voltizug.program import BROKEN_OFF, DONE, Reply
 
 from ..kit import write
 from .browser import CHROMIUM, Browser, Tab
@@ -89,6 +91,26 @@ class Saves(Page):
         self.assertEqual(live.part("aside")["text"], TYPED)
         both = live.merge(TYPED, live.part("aside")["base"])
         self.assertEqual(both["text"], THEIRS + "// mine\n")
+
+    def test_what_the_page_saved_and_another_editor_replaced(self):
+        """That editor had the text of before."""
+        live = self.page()
+        live.save(False, TYPED, live.part("base"))
+        self.save_outside(live, OTHER)
+        self.assertEqual(live.part("notice"), "The file has replaced what you saved here: undo brings it back.")
+        both = live.merge(**live.part("aside"))
+        self.assertEqual((both["text"], both["base"]), (OTHER + "// mine\n", live.part("file")))
+
+    def test_a_text_that_is_broken_off(self):
+        live = self.page()
+        base = live.part("base")
+        live.bench.edit = lambda lines: live.bench.look(live.bench.script) or Edit(lines[0], Reply(DONE, ["no %d %s" % BROKEN_OFF], []))
+        self.save_outside(live, THEIRS)
+        del live.bench.edit
+        self.assertIn("broken off", live.part("notice"))
+        self.assertRaises(Refused, live.save, True, TYPED, base)
+        self.assert_file(live, THEIRS)
+        self.assertNotEqual(live.part("file"), live.part("base"))
 
     def test_a_trial_that_undo_brings_back(self):
         live = self.page()

@@ -8,11 +8,12 @@ from .ink import shown_text
 
 class Bases:
     """`files` are the texts that the file had, `made_from` is the base of each text that was read or tried; those that were read or saved are `own`
-    bases. A text is named by its hash."""
+    bases, and `begun` has the bases before they were saved. A text is named by its hash."""
 
     def __init__(self) -> None:
         self.files: Dict[str, bytes] = {}
         self.made_from: Dict[str, str] = {}
+        self.begun: Dict[str, str] = {}
         self.own: Set[str] = set()
 
     def file(self, text: bytes) -> str:
@@ -26,9 +27,15 @@ class Bases:
 
     def note_file(self, text: bytes, data: Optional[bytes]) -> None:
         """Notes a text that was read or saved just now. (The file, which has the data, may have other line ends.)"""
-        is_there = data is not None and shown_text(data) == shown_text(text)
-        self.made_from[name_of(text)] = self.file(data if data is not None and is_there else text)
-        self.own.add(name_of(text))
+        name, is_there = name_of(text), data is not None and shown_text(data) == shown_text(text)
+        if name in self.made_from and name not in self.own:
+            self.begun[name] = self.made_from[name]
+        self.made_from[name] = self.file(data if data is not None and is_there else text)
+        self.own.add(name)
+
+    def first_of(self, text: bytes) -> str:
+        """Returns the base of a text, that of before it was saved."""
+        return self.begun.get(name_of(text)) or self.of(text)
 
     def is_own(self, text: bytes) -> bool:
         return name_of(text) in self.own

@@ -29,8 +29,9 @@ from .timeline import timeline
 PERIOD, QUIET = 0.008, 0.3
 # Of how many versions the changed outcomes are kept; how many strings are asked for at once.
 KEPT, MOST_RULES = 64, 500
-# What is said of a trial that the program holds, or does not.
-REPLACED = {True: "The file has replaced your trial: undo brings it back.", False: "The file has replaced your trial. Only comments differ, so undo does not bring it back."}
+# What is said of a text that the file replaced: whether it had been saved, and whether the program holds it.
+REPLACED = {False: "The file has replaced your trial", True: "The file has replaced what you saved here"}
+HELD = {False: ". Only comments differ, so undo does not bring it back.", True: ": undo brings it back."}
 ORIGINS = {"file": "saved", "trial": "trial", "undo": "undo", "redo": "redo"}
 
 
@@ -247,11 +248,11 @@ class Live:
                 self.show_refusal(edit.reply, lines, origin, base)
             else:
                 is_held = self.note_step(lines[0], before, text)
-                aside = {"text": ink.shown_text(text), "base": self.bases.of(text)} if edit.aside is not None else None
+                aside = {"text": ink.shown_text(text), "base": self.bases.first_of(text)} if edit.aside is not None else None
                 self.note_base(origin, base)
                 self.show_edit(edit.changes)
                 if aside:
-                    self.publish(aside=aside, notice=REPLACED[is_held])
+                    self.publish(aside=aside, notice=REPLACED[self.bases.is_own(text)] + HELD[is_held])
             return edit.reply.is_done
 
     def note_base(self, origin: str, base: str) -> None:

@@ -199,8 +199,8 @@ function showStatus() {
     box.replaceChildren(dot, `${st.fault.all.length > 1 ? st.fault.all.length + ' faults' : 'fault'} in ${st.fault.origin === 'trial' ? 'the trial' : st.fault.isOfScript ? 'the file' : 'a file'}${st.text === undefined ? '' : ': all results are of the text before it'}`);
   } else {
     box.className = st.isTrial || isTyped() ? 'busy' : '';
-    const of = st.isTrial ? 'a trial, not in the file' : 'as in the file';
-    box.replaceChildren(dot, isTyped() ? `typed, not tried; the results are of ${st.isTrial ? 'the trial' : 'the file'}` : of, last ? ` · ${last.at} · ${number(last.ms)} ms` : '');
+    const of = st.isTrial ? 'a trial, not in the file' : st.base === st.file ? 'as in the file' : 'not what the file has now';
+    box.replaceChildren(dot, isTyped() ? `typed, not tried; the results are of ${st.isTrial ? 'the trial' : st.base === st.file ? 'the file' : 'the text before'}` : of, last ? ` · ${last.at} · ${number(last.ms)} ms` : '');
   }
 }
 // (of a figure what it counts, and that of one)
@@ -238,7 +238,7 @@ function showTop(news) {
   }
   showStatus();
   if ('fault' in news && st.fault && !st.fault.line) say(st.fault.sentence, true);
-  else if ('notice' in news && st.notice && !(st.aside && S.editing)) say(st.notice, false, st.aside && ['Edit the trial', () => editText(st.aside.text, st.aside.base)]);
+  else if ('notice' in news && st.notice && !(st.aside && S.editing)) say(st.notice, false, st.aside && ['Edit it again', () => editText(st.aside.text, st.aside.base)]);
   else if ('notice' in news || 'fault' in news) $('bar').hidden = true;
 }
 function say(sentence, bad, act) {
@@ -431,11 +431,11 @@ function focusCount(n, by) {
 // The script as a trial
 
 // The text of the file that the shown text was made from.
-const inForceBase = () => S.st.fault && S.st.fault.text !== null && S.st.fault.isOfScript ? S.st.fault.base : S.st.base;
+const shownBase = () => S.st.fault && S.st.fault.text !== null && S.st.fault.isOfScript ? S.st.fault.base : S.st.base;
 const isTyped = () => S.editing && S.dirty;
 // Whether the file has something else than what the text was made from that a save would write.
 const isOutside = () => !S.saving && (isTyped() ? S.base : S.st.isTrial ? S.st.base : S.st.file) !== S.st.file;
-function setEditor() { if ($('editor').value !== inForce()) $('editor').value = inForce(); S.dirty = false; S.base = inForceBase(); }
+function setEditor() { if ($('editor').value !== inForce()) $('editor').value = inForce(); S.dirty = false; S.base = shownBase(); }
 function showOutside() {
   const on = isOutside();
   if ($('outside').hidden !== on) return;
