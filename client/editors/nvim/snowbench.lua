@@ -7,17 +7,56 @@ local client, asking = nil, {}
 vim.opt.runtimepath:append(vim.fn.fnamemodify(here, ':h') .. '/vim')
 vim.cmd('augroup filetypedetect | runtime! ftdetect/snowball.vim | augroup END')
 
-local function show(failure, lines)
-  if failure then return vim.notify(failure.message, vim.log.levels.ERROR) end
-  if type(lines) ~= 'table' then return end
-  vim.cmd('botright new')
-  vim.bo.buftype, vim.bo.bufhidden, vim.bo.swapfile = 'nofile', 'wipe', false
-  vim.api.nvim_buf_set_lines(0, 0, -1, false, lines)
-  vim.api.nvim_win_set_height(0, math.min(math.max(#lines, 1), 15))
+-- One window has the reports: its buffer, the script of the report that it shows, and the numbers of that report and of the last request.
+local report = { buffer = -1, script = -1, shown = 0, asked = 0 }
+local names = { 'mark', 'changes', 'why', 'class', 'uses', 'unused', 'compare', 'differ', 'families', 'counts', 'stats' }
+local add_commands
+
+local function report_window()
+  if not vim.api.nvim_buf_is_valid(report.buffer) then
+    report.buffer = vim.api.nvim_create_buf(false, true)
+    add_commands(report.buffer, function() return report.script end)
+  end
+  for _, window in ipairs(vim.api.nvim_tabpage_list_wins(0)) do
+    if vim.api.nvim_win_get_buf(window) == report.buffer then return window end
+  end
+  local before = vim.api.nvim_get_current_win()
+  vim.cmd('noautocmd botright split')
+  local window = vim.api.nvim_get_current_win()
+  vim.api.nvim_win_set_buf(window, report.buffer)
+  vim.api.nvim_set_current_win(before)
+  return window
 end
 
-local function run(command, ...)
-  vim.lsp.buf_request(0, 'workspace/executeCommand', { command = 'snowbench.' .. command, arguments = { vim.uri_from_bufnr(0), ... } }, show)
+-- (the cursor stays where it is, also if the answer comes late)
+local function show(number, script, title, lines)
+  if number < report.shown then return end
+  report.shown, report.script = number, script
+  local window = report_window()
+  vim.api.nvim_buf_set_lines(report.buffer, 0, -1, false, lines)
+  vim.api.nvim_win_set_height(window, math.min(math.max(#lines, 1), math.max(math.floor(vim.o.lines / 3), 3)))
+  vim.api.nvim_win_set_option(window, 'winfixheight', true)
+  vim.api.nvim_win_set_option(window, 'statusline', (title:gsub('%%', '%%%%')))
+  vim.api.nvim_win_set_cursor(window, { 1, 0 })
+end
+
+local function run(script, name, argument)
+  if not vim.api.nvim_buf_is_loaded(script) then return vim.notify('the script is not open', vim.log.levels.ERROR) end
+  report.asked = report.asked + 1
+  local number, call = report.asked, { command = 'snowbench.' .. name, arguments = { vim.uri_from_bufnr(script), argument } }
+  vim.lsp.buf_request(script, 'workspace/executeCommand', call, function(failure, lines)
+    if failure then return vim.notify(failure.message, vim.log.levels.ERROR) end
+    if type(lines) == 'table' then show(number, script, name .. ' ' .. argument, lines) end
+  end)
+end
+
+function add_commands(buffer, script_of)
+  for _, name in ipairs(names) do
+    local word = name == 'why' or name == 'class' or name == 'uses'
+    vim.api.nvim_buf_create_user_command(buffer, 'Snow' .. name:sub(1, 1):upper() .. name:sub(2), function(it)
+      run(script_of(), name, it.args ~= '' and it.args or word and vim.fn.expand('<cword>') or '')
+    end, { nargs = '?' })
+  end
 end
 
 -- Numbers beside strings, and stems beside words: for the lines of the window, at the ends of lines. One request at a time.
@@ -66,14 +105,9 @@ local function attach(buffer)
     gO = vim.lsp.buf.document_symbol, ga = vim.lsp.buf.code_action, gl = vim.lsp.codelens.run,
   }
   for key, what in pairs(keys) do vim.keymap.set('n', key, what, { buffer = buffer }) end
-  for _, name in ipairs({ 'mark', 'changes', 'why', 'class', 'uses', 'unused', 'compare', 'differ', 'families', 'counts', 'stats' }) do
-    local word = name == 'why' or name == 'class' or name == 'uses'
-    vim.api.nvim_buf_create_user_command(buffer, 'Snow' .. name:sub(1, 1):upper() .. name:sub(2), function(it)
-      run(name, it.args ~= '' and it.args or word and vim.fn.expand('<cword>') or '')
-    end, { nargs = '?' })
-    vim.lsp.commands['snowbench.' .. name] = function(call)
-      vim.lsp.buf_request(0, 'workspace/executeCommand', { command = call.command, arguments = call.arguments }, show)
-    end
+  add_commands(buffer, function() return buffer end)
+  for _, name in ipairs(names) do
+    vim.lsp.commands['snowbench.' .. name] = function(call) run(vim.api.nvim_get_current_buf(), name, call.arguments[2] or '') end
   end
 end
 

@@ -90,6 +90,18 @@ class Fixes(OverServer):
         self.assertEqual(self.fixed(editor, THREE, 1)["Replace by R1"], TWO)
         self.assertEqual(len(editor.change(URI, TWO)), 2)
 
+    @unittest.skipUnless(has("faults x"), "the program has no rows `faults` yet")
+    def test_the_faults_of_the_line(self):
+        """Wherever the cursor is in it; those at the cursor come first, and those of other lines do not come."""
+        text = "externals ( stem )\nroutines ( one two )\ndefine one as true\ndefine two as true\ndefine stem as ( onne twwo )\ndefine on as onee\n"
+        editor = self.editor({"run": "never"})
+        editor.open(URI, text)
+        editor.published(URI)
+        for line, character, wanted in ((4, 0, ["one", "two"]), (4, 28, ["one", "two"]), (4, 23, ["two", "one"]), (3, 5, []), (3, 18, [])):
+            here = {"line": line, "character": character}
+            found = editor.about(URI, "codeAction", range={"start": here, "end": here}, context={"diagnostics": []})
+            self.assertEqual([one["title"][11:] for one in found if one["title"].startswith("Replace by ")], wanted, here)
+
     def test_a_program_that_says_one(self):
         editor = self.editor({"run": "never"}, program=PLAIN)
         self.assertEqual([one["code"] for one in editor.open(URI, THREE)], ["DeclaredTwice"])

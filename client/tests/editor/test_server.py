@@ -110,7 +110,8 @@ class Names(OverServer):
     def test_rename(self):
         edit = self.editor_.about(self.uri, "rename", self.at("Step_1a", 2), newName="first")
         self.assertEqual(len(edit["changes"][self.uri]), PORTER.count("Step_1a"))
-        for name, why in (("among", "cannot be a name"), ("R1", "is declared already"), ("a b", "cannot be a name"), ("1", "cannot be a name")):
+        letters = "cannot be a name: a name has the letters A to Z and a to z, digits and _, and begins with a letter"
+        for name, why in (("among", "among cannot be a name: it is a word of Snowball"), ("R1", "is declared already"), ("a b", letters), ("1", letters), ("h\u0101rd", letters)):
             self.assertIn(why, self.editor_.about(self.uri, "rename", self.at("Step_1a"), newName=name)["message"])
         self.assertIn("declares", self.editor_.about(self.uri, "rename", self.at("among"), newName="x")["message"])
         self.editor_.change(self.uri, PORTER.replace("do Step_2", "do other") + "define other_fault as nothing\n")
@@ -122,6 +123,22 @@ class Names(OverServer):
         self.assertEqual([one["name"] for one in found], [line.split()[1] for line in PORTER.splitlines() if line.split()[:1] == ["define"]])
         step = next(one for one in found if one["name"] == "Step_1b")
         self.assertEqual((step["detail"], [child["name"] for child in step["children"]]), ("routine, backwards", ["among 1", "among 2"]))
+
+    def test_completion_in_each_mode(self):
+        """A routine of the other mode is a fault at such a place, and is not offered. One that is not defined yet is."""
+        start = "externals ( stem )\nroutines ( ahead back later )\ndefine ahead as true\nbackwardmode ( define back as true )\n"
+        forward, backward, both = {"ahead", "later"}, {"back", "later"}, {"ahead", "back", "later"}
+        for body, wanted in (
+            ("define stem as ( do ", forward), ("define stem as ( backwards ", backward), ("define stem as ( backwards ( do ", backward),
+            ("define stem as ( backwards do ahead ", forward), ("define stem as ( backwards not ", backward), ("define stem as ( setlimit ", forward),
+            ("define stem as ( backwards setlimit ", backward), ("define stem as ( backwards setlimit hop 2 for ", backward),
+            ("define stem as ( backwards ( back ) ", forward), ("define stem as ( backwards back or ", forward), ("define stem as ( among ( 'a' ", forward),
+            ("define stem as backwards ( [substring] among ( 'a' ( ", backward), ("define stem as ( loop 2 ", forward), ("define stem as ( backwards loop 2 ", backward),
+            ("backwardmode ( define later as ( do ", backward), ("define ", {"later"}),
+        ):
+            self.editor_.change(self.uri, start + body)
+            found = {item["label"] for item in self.editor_.about(self.uri, "completion", len(start + body))}
+            self.assertEqual(found & both, wanted, body)
 
     def test_completion(self):
         labels = lambda at: {item["label"] for item in self.editor_.about(self.uri, "completion", at)}

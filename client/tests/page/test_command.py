@@ -1,4 +1,5 @@
 """The command line of `page`."""
+import json
 import os
 import signal
 import socket
@@ -8,7 +9,7 @@ import urllib.request
 from typing import Any
 
 from ..kit import CLIENT, PROGRAM, Case
-from .kit import SCRIPT, WORDS
+from .kit import OTHER, SCRIPT, WORDS
 
 
 class Commands(Case):
@@ -38,6 +39,27 @@ class Commands(Case):
         page.send_signal(signal.SIGINT)
         self.assertEqual(page.wait(60), 0)
         self.assertEqual(len(os.listdir(os.path.join(room, "state", "voltizug", "open"))), 1)
+
+    def test_what_was_tried_is_brought_back(self):
+        """By what the page says at its end."""
+        room = self.room(my_sbl=SCRIPT)
+        with open(os.path.join(room, "my words"), "w") as file:
+            file.write(WORDS)
+        page = self.begin(room, "my.sbl", "my words")
+        address = page.stdout.readline().decode().strip()
+        headers = {"Origin": address.rpartition("/")[0].rpartition("/")[0], "Content-Type": "application/json"}
+        for path, given in (("trial", {"text": OTHER}), ("add", {"words": ["walker"]})):
+            request = urllib.request.Request(address + path, json.dumps(given).encode(), headers)
+            with urllib.request.urlopen(request, timeout=60) as reply:
+                self.assertEqual(reply.status, 200)
+        page.send_signal(signal.SIGINT)
+        said = page.stderr.read().decode().splitlines()[-1]
+        self.assertEqual(said, "snowbench: what you tried or added is in no file, and is kept. Start ./snowbench work my.sbl 'my words', and type rescue: it is there again.")
+        terminal = self.terminal(room, "my.sbl", "my words")
+        terminal.got()
+        terminal.enter("rescue")
+        self.assertIn("'ing'", terminal.enter("show r"))
+        self.assertIn("walker", terminal.enter("find walker"))
 
     def test_what_cannot_be_begun(self):
         room = self.room(my_sbl=SCRIPT)

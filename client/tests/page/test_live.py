@@ -136,10 +136,12 @@ class Edits(Page):
         self.assertIn("undo brings it back", live.part("notice"))
         live.undo("undo", 1)
         self.assertEqual(live.part("text"), OTHER)
-        with self.assertRaises(Refused):
-            live.save(False)
-        live.save(True)
-        self.assertEqual(read_file(live.bench.script), OTHER.encode())
+        for _ in range(2):
+            self.assertRaises(Refused, live.save, True)
+            self.assertEqual(read_file(live.bench.script), theirs.encode())
+        both = live.merge(OTHER, live.part("base"))
+        live.save(False, both["text"], both["base"])
+        self.assertIn("\n// %s\n%s\n" % (theirs.splitlines()[3], OTHER.splitlines()[3]), read_file(live.bench.script).decode())
 
     def test_limit_words_and_mark(self):
         live = self.page()

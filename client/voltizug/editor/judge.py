@@ -13,6 +13,8 @@ from .texts import Text, by_characters, encoded
 PATIENCE, MOST, LINES = 20.0, 100, 5
 # What follows the name of a file: line, column and sentence.
 PLACE = re.compile(r":(\d+):(\d+): (.*)", re.S)
+# A routine of each mode.
+MODES = "externals ( stem ) routines ( ahead back ) define ahead as true backwardmode ( define back as true ) "
 # White space.
 BLANK = "\ufeff \t\r\n\v\f"
 # A fault of a text: its name in docs/LANGUAGE.md, from where to where it is, and the program's sentence.
@@ -106,17 +108,38 @@ class Judge:
     def fitting(self, before: Index) -> List[str]:
         """Returns the words that can follow tokens, and NAME if a name can: those that make no fault of syntax there, or of what is left out.
         Only the tokens of the item are sent, since what comes before an item does not matter to its grammar."""
-        tokens = before.tokens
-        begin = max((number for number, token in enumerate(tokens) if token.kind == "word" and token.text in ITEMS), default=0)
+        tokens, begin = before.tokens, start_of(before)
         first = tokens[begin].text if tokens else ""
         if first in ("stringescapes", "stringdef", *DECLARATIONS):
             return list(ITEMS) if tokens[-1].kind in ("inserts", "literal") or tokens[-1].text == ")" else []
         is_done = any(item.first == begin and item.last < len(tokens) - 1 for item in before.order)
         rest = [] if is_done or first == "backwardmode" else tokens[begin:]
-        shown = "backwardmode ( " * before.is_in_backwardmode + " ".join("'a'" if token.kind == "literal" else token.text for token in rest) + " "
+        shown = as_text(before, rest)
         words = (*ITEMS, *CONTROL, *COMMANDS, *VALUES, *OTHERS, "NAME")
         faults = lambda word: self.faults(Text(shown + word + " {}" * (word == "stringescapes")))[:1]
         return [word for word in words if all(one.name not in ("Syntax", "OutOfProfile") or one.start > len(shown) for one in faults(word))]
+
+    def is_backward_next(self, before: Index) -> Optional[bool]:
+        """Returns whether a routine that comes after tokens in a definition is called in backward mode; nothing if the program does not say that.
+        The item is sent with a call of a routine of each mode, and with the brackets closed: one of both calls is a fault."""
+        rest = before.tokens[start_of(before) :]
+        depth = sum((token.text == "(") - (token.text == ")") for token in rest if token.kind == "sign")
+        shown = MODES + as_text(before, rest)
+        for ending in (" ", " for true "):
+            texts = [Text(shown + name + ending + ") " * (depth + before.is_in_backwardmode)) for name in ("ahead", "back")]
+            found = [[fault for fault in self.faults(text) if fault.name == "WrongMode" and fault.start == len(shown)] for text in texts]
+            if bool(found[0]) != bool(found[1]):
+                return bool(found[0])
+        return None
+
+
+def start_of(before: Index) -> int:
+    """Returns the number of the first token of the last item."""
+    return max((number for number, token in enumerate(before.tokens) if token.kind == "word" and token.text in ITEMS), default=0)
+
+
+def as_text(before: Index, tokens: Sequence[rows.Token]) -> str:
+    return "backwardmode ( " * before.is_in_backwardmode + " ".join("'a'" if token.kind == "literal" else token.text for token in tokens) + " "
 
 
 def placed(text: Text, name: str, length: int, place: Any) -> Fault:

@@ -1,6 +1,7 @@
 """What is asked about the names and faults of a text: places, lists, renaming, completion and quick fixes."""
 from typing import Any, List, Optional, Tuple
 
+from ..language import RESERVED
 from ..layout import named
 from ..rows import Token
 from ..words import Refused
@@ -47,7 +48,8 @@ class Requests(Server):
         if not name:
             raise Refused("only a name that the script declares can be renamed")
         if [token[:3] for token in self.judge.tokens(new)] != [("name", 0, len(new))]:
-            raise Refused("%s cannot be a name" % named(new))
+            why = "it is a word of Snowball" if new in RESERVED else "a name has the letters A to Z and a to z, digits and _, and begins with a letter"
+            raise Refused("%s cannot be a name: %s" % (named(new), why))
         if new in index.kinds and new != name:
             raise Refused("%s is declared already" % new)
         edits = [{"range": document.text.range(token.start, token.end), "newText": new} for token in index.uses[name]]
@@ -84,13 +86,20 @@ class Requests(Server):
         is_new = bool(before.tokens) and before.tokens[-1].text == "define"
         names = [name for name, kind in index.kinds.items() if kind in kinds] if "NAME" in fitting else []
         names = [name for name in names if not is_new or name not in index.items or index.items[name].name.start == start]
+        mode = None if is_new or not any(name in index.items for name in names) else self.judge.is_backward_next(before)
+        other = {name for name, item in index.items.items() if item.is_routine and item.is_backward is not mode and mode is not None}
+        names = [name for name in names if name not in other]
         found = [{"label": name, "kind": NUMBERS[index.kinds[name]][1], "detail": index.kinds[name]} for name in names]
         return found + [{"label": word, "kind": 14} for word in fitting if word != "NAME"]
 
     def on_codeAction(self, params: Message) -> List[Message]:
+        """The fixes of the faults in the lines of a range, those of the range itself first, and commands."""
         document = self.document(params)
         start, end = (document.text.offset(params["range"][side]) for side in ("start", "end"))
-        here = [fault for fault in document.faults if fault.start <= end and start <= fault.end][:MOST]
+        text = document.text.text + "\n"
+        first, last = text.rfind("\n", 0, start) + 1, text.index("\n", end)
+        near = [fault for fault in document.faults if fault.start <= last and (first < fault.end or first == fault.start)]
+        here = sorted(near, key=lambda fault: not (fault.start <= end and start <= fault.end))[:MOST]
         calls = [{"title": title, "command": "snowbench." + name, "arguments": [document.uri, ""]} for name, title in TITLES.items()]
         commands = [{"title": call["title"], "kind": "source", "command": call} for call in calls]
         return [action for fault in here for action in self.fixes(document, fault)] + (commands if document.vocabulary else [])

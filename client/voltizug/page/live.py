@@ -2,15 +2,16 @@
 may do with the bench. After an edit the outcomes come first, and what takes longer follows.
 """
 import contextlib
+import os
 import re
 import threading
 import time
 from typing import Any, Callable, Dict, Iterator, List, Optional, Sequence
 
 from .. import loops, rows, words
-from ..bench import Bench, Edit
+from ..bench import Bench
 from ..conditions import with_tests
-from ..kept import state_of
+from ..kept import read_file, state_of
 from ..layout import named, short
 from ..lints import lints
 from ..places import BOM
@@ -18,20 +19,19 @@ from ..program import BROKEN_OFF, DONE, ENDED, Reply
 from ..warn import warnings_on
 from ..words import Refused
 from . import ink
+from .bases import Bases, merged
 from .outcomes import Outcomes, figures_of
 from .refusal import refusal
+from .saves import Saves
 from .timeline import timeline
 
 # How often files are looked at, and after how much quiet rules are counted, in seconds.
 PERIOD, QUIET = 0.008, 0.3
 # Of how many versions the changed outcomes are kept; how many strings are asked for at once.
 KEPT, MOST_RULES = 64, 500
-MAY_NOT = {
-    "changed": "{} was changed since it was read. Nothing was written.",
-    "gone?": "{} is not there any more. Nothing was written. If you save again, it is written anew.",
-    "refused?": "{} has a text that was refused. Nothing was written. If you save again, it is overwritten.",
-    "older?": "{} has what undo took back. Nothing was written. If you save again, it is overwritten.",
-}
+# What is said of a text that the file replaced: whether it had been saved, and whether the program holds it.
+REPLACED = {False: "The file has replaced your trial", True: "The file has replaced what you saved here"}
+HELD = {False: ". Only comments differ, so undo does not bring it back.", True: ": undo brings it back."}
 ORIGINS = {"file": "saved", "trial": "trial", "undo": "undo", "redo": "redo"}
 
 
@@ -48,13 +48,14 @@ class Live:
         # The names of the edits that `history` holds, those that are undone too; the definitions of the script before; the text that was tried last.
         self.steps: List[str] = []
         self.typed = ""
+        self.bases, self.saves = Bases(), Saves(bench)
         self.slices: Dict[str, bytes] = {}
         self.origin, self.begun, self.is_restarted = "start", 0.0, False
         self.owed: List[Callable[[], None]] = []
         self.quiet_until, self.stopping = 0.0, threading.Event()
         bench.on_accepted, bench.on_restart, bench.program.on_long = self.show_outcomes, self.note_restart, self.tell_long
         name = {"script": bench.script, "words": bench.words or "", "stems": stems, "hasFamilies": bool(families), "refusals": words.REFUSALS}
-        self.publish(names=name, fault=None, notice="", busy=None, warnings=[], history=None, changes=[], limit=0, added=0)
+        self.publish(names=name, fault=None, notice="", aside=None, busy=None, warnings=[], history=None, changes=[], limit=0, added=0)
 
     # What is shown
 
@@ -123,7 +124,7 @@ class Live:
                     del self.deltas[self.floor]
             self.script += 1
             last = {"origin": self.origin, "at": time.strftime("%H:%M:%S"), "ms": round(1000 * (time.monotonic() - self.begun)), "changed": changed}
-            self.publish(text=ink.shown_text(text), script=self.script, fault=None, notice="", last=last, isPartial=True)
+            self.publish(text=ink.shown_text(text), script=self.script, fault=None, notice="", aside=None, last=last, isPartial=True)
 
     def show_mark(self, name: str = "") -> None:
         then = [(word, old) for word, old in zip(self.outcomes.words, self.outcomes.marked) if old is not None]
@@ -143,6 +144,7 @@ class Live:
                 self.show_fault(reply.said or ["The program ended at the start."], "file")
                 return
             self.outcomes, self.steps = Outcomes(), []
+            self.note_base("file", "")
             self.show_outcomes()
             self.note_mark()
             if self.stems:
@@ -234,8 +236,8 @@ class Live:
 
     # Edits
 
-    def edit(self, lines: Sequence[str], origin: str) -> bool:
-        """Makes an edit. Returns whether it was accepted."""
+    def edit(self, lines: Sequence[str], origin: str, base: str = "") -> bool:
+        """Makes an edit; a trial has a base. Returns whether it was accepted."""
         with self.asking():
             self.begun, self.origin = time.monotonic(), origin
             before, text = self.history_rows(), self.bench.program.now.text
@@ -243,13 +245,29 @@ class Live:
             if edit.reply.state != DONE or edit.reply.refusal() == BROKEN_OFF:
                 self.show_broken(edit.reply)
             elif edit.reply.refusal():
-                self.show_refusal(edit.reply, lines, origin)
+                self.show_refusal(edit.reply, lines, origin, base)
             else:
-                self.note_step(lines[0], before, text)
-                self.show_edit(edit.changes, edit)
+                is_held = self.note_step(lines[0], before, text)
+                aside = {"text": ink.shown_text(text), "base": self.bases.first_of(text)} if edit.aside is not None else None
+                self.note_base(origin, base)
+                self.show_edit(edit.changes)
+                if aside:
+                    self.publish(aside=aside, notice=REPLACED[self.bases.is_own(text)] + HELD[is_held])
             return edit.reply.is_done
 
-    def show_edit(self, changes: Sequence[Any], edit: Optional[Edit] = None) -> None:
+    def note_base(self, origin: str, base: str) -> None:
+        text = self.bench.program.now.text
+        if origin == "file":
+            self.bases.note_file(text, read_file(self.bench.script))
+        elif base and (origin == "trial" or not self.bases.is_own(text)):
+            self.bases.note(text, base)
+
+    def base(self) -> str:
+        """Returns the base of the current script. (If undo took back what the file has, the author knows that.)"""
+        text = self.bench.program.now.text
+        return self.bases.of(self.bench.file_text or b"" if self.bench.is_older and self.bases.is_own(text) else text)
+
+    def show_edit(self, changes: Sequence[Any]) -> None:
         """Shows what an edit changed, by the rows of the program, and what follows from it."""
         program = self.bench.program
         text, in_file = ink.shown_text(program.now.text), ink.shown_text(self.bench.file_text or b"")
@@ -258,10 +276,8 @@ class Live:
                 self.show_mark(self.part("markName"))
         self.publish(
             changes=[flat(row) for row in changes if row.kind != "changed"], isPartial=False, text=text, isTrial=text != in_file, history=self.history(),
-            limit=int(program.now.limit), added=len(self.bench.added),
+            limit=int(program.now.limit), added=len(self.bench.added), base=self.base(), file=self.file_now(),
         )
-        if edit and edit.aside is not None:
-            self.publish(notice="The file has replaced your trial: undo brings it back.")
         if self.show_ink in self.owed:
             # (what the edit before has changed is not known)
             self.slices = {}
@@ -277,17 +293,19 @@ class Live:
         self.show_edit(self.bench.changes)
         self.publish(notice="The program ended, and was started again." if reply.state == ENDED else "It was broken off: the script is the one of before.")
 
-    def show_refusal(self, reply: Reply, lines: Sequence[str], origin: str) -> None:
+    def show_refusal(self, reply: Reply, lines: Sequence[str], origin: str, base: str) -> None:
         if (reply.refusal() or (0, ""))[0] == 48 and reply.said:
-            self.show_fault(reply.said, origin, self.typed if origin == "trial" else None)
+            self.show_fault(reply.said, origin, self.typed if origin == "trial" else None, base)
         else:
             self.publish(notice=words.sentence(reply, list(lines), self.bench))
 
-    def show_fault(self, said: Sequence[str], origin: str, text: Optional[str] = None) -> None:
+    def show_fault(self, said: Sequence[str], origin: str, text: Optional[str] = None, base: str = "") -> None:
         """Shows what the program said of a text that it refused, the file's if it is not another one."""
         fault = refusal(self.bench, said, text)
         spans = self.tokens(fault["text"]) if fault["isOfScript"] else []
-        self.publish(fault={**fault, "origin": origin, "spans": spans}, last=None if self.bench.is_waiting else self.part("last"))
+        file = self.file_now()
+        fault.update({"origin": origin, "spans": spans, "base": base if origin == "trial" else file})
+        self.publish(fault=fault, last=None if self.bench.is_waiting else self.part("last"))
 
     # The history by name
 
@@ -295,12 +313,13 @@ class Live:
         lines = self.bench.known("history")
         return rows.read("history", lines) if lines is not None else None
 
-    def note_step(self, command: str, before: Optional[List[Any]], text: bytes) -> None:
-        """Notes the name of an accepted edit, if the program holds it. (It holds 100, and then the number does not tell.)"""
+    def note_step(self, command: str, before: Optional[List[Any]], text: bytes) -> bool:
+        """Notes the name of an accepted edit, if the program holds it: returns that. (It holds 100, and then the number does not tell.)"""
         counts = [sum(row.kind == "done" for row in found or []) for found in (before, self.history_rows())]
         is_held = counts[1] > counts[0] or counts[0] >= 100 and text != self.bench.program.now.text
         if command not in ("undo", "redo") and is_held:
             self.steps = [*self.steps[: counts[0]], command if command.startswith("limit") else ORIGINS.get(self.origin, self.origin)]
+        return is_held
 
     def name_step(self, names: Sequence[str]) -> None:
         """Completes the name of the last edit by the definitions that it changed."""
@@ -325,7 +344,7 @@ class Live:
             if not self.edit([command], command):
                 break
 
-    def take_trial(self, text: str) -> None:
+    def take_trial(self, text: str, base: str = "") -> None:
         """Has the program run a text that is in no file."""
         self.typed = text.replace("\r\n", "\n")
         lines = self.typed.split("\n")
@@ -333,24 +352,50 @@ class Live:
         if any(line.strip() == "." for line in lines):
             raise Refused("A line with a single point cannot be tried here, since it ends what is sent. Save the text in your editor.")
         with self.asking():
+            base = base or self.base()
             if text == ink.shown_text(self.bench.program.now.text):
-                self.publish(fault=None)
+                self.note_base("same", base)
+                self.publish(fault=None, base=self.base())
             else:
                 mark = BOM.decode() if (self.bench.file_text or b"").startswith(BOM) and lines else ""
-                self.edit(["replace", *([mark + lines[0], *lines[1:]] if lines else []), "."], "trial")
+                self.edit(["replace", *([mark + lines[0], *lines[1:]] if lines else []), "."], "trial", base)
 
-    def save(self, is_sure: bool) -> None:
+    def save(self, is_sure: bool, text: Optional[str] = None, base: str = "") -> Dict[str, str]:
+        """Writes the current script to the file, or a text with its base, if the program accepts that. Returns what the file has then."""
         bench = self.bench
         with self.asking():
-            why = bench.may_write("save", bench.script)
-            if not why and bench.script in bench.saved():
-                why = "changed"
-            if why and not (is_sure and why.endswith("?")):
-                raise Refused(MAY_NOT[why].format(short(bench.script)) if why in MAY_NOT else words.may_not(why, "save", bench.script, ""))
+            base = base or self.base()
+            why = self.saves.check(is_sure, base, self.file_now())
+            text = ink.shown_text(bench.program.now.text) if text is None else text
+            if why == "undone?" and not self.edit(["reload"], "file"):
+                # (what the file has is a step again: undo brings it back later)
+                raise Refused("%s cannot be read, and was not overwritten." % short(bench.script))
+            self.take_trial(text, base)
+            if ink.shown_text(bench.program.now.text) != text.replace("\r\n", "\n"):
+                return {}
+            self.saves.check(is_sure, base, self.file_now())
             reply = bench.write("save", bench.script)
             if not reply.is_done:
                 raise Refused(words.sentence(reply, ["save " + bench.script], bench))
-            self.publish(isTrial=False, fault=None, notice="Saved.")
+            self.note_base("file", "")
+            self.publish(isTrial=False, fault=None, notice="Saved.", aside=None, base=self.base(), file=self.base())
+            return {"file": self.base()}
+
+    def merge(self, text: str, base: str) -> Dict[str, Any]:
+        """Returns a text with what was changed in the file since its base, and the base that it has then."""
+        with self.turn:
+            if self.bench.is_older:
+                self.edit(["reload"], "file")
+            file = self.file_now()
+            old, theirs = (ink.shown_text(self.bases.files[name]) for name in (base, file))
+        new, both = merged(old, text, theirs, short(os.path.basename(self.bench.script)))
+        return {"text": new, "both": both, "base": file}
+
+    def file_now(self) -> str:
+        """Notes what the file has. (As long as it is not there, it has what it had.)"""
+        data = read_file(self.bench.script)
+        self.publish(file=self.part("file") if data is None else self.bases.file(data))
+        return self.part("file")
 
     def limit(self, text: str) -> None:
         if not re.fullmatch(r"[0-9]{1,9}", text):

@@ -5,7 +5,7 @@ const base = location.pathname.replace(/[^/]*$/, ''), ROW = 28, LINE = 20, TOP =
 const VIEWS = ['changes', 'classes', 'word', 'rule', 'families'];
 const S = {
   st: {}, words: [], out: [], marked: [], classes: null, changed: null, view: 'changes', kind: 'changed', fkind: 'under', sort: 'size', desc: true, pick: null, sel: null,
-  word: null, rule: null, fam: null, editing: false, dirty: false, live: null, lines: [], ruleAt: new Map(), counts: new Map(), typed: null, at: 0, idle: 0, never: 0, oops: [], drawn: new Map(),
+  word: null, rule: null, fam: null, editing: false, dirty: false, base: null, saving: false, dropping: false, live: null, lines: [], ruleAt: new Map(), counts: new Map(), typed: null, at: 0, idle: 0, never: 0, oops: [], drawn: new Map(),
 };
 const numbers = new Intl.NumberFormat('en-US'), number = n => numbers.format(n);
 const count = (n, one, many) => `${number(n)} ${n === 1 ? one : many || one + 's'}`;
@@ -134,7 +134,7 @@ async function ask(path, query, body) {
   return data;
 }
 async function post(path, body) {
-  try { await ask(path, null, body || {}); return true; } catch (fault) {
+  try { return await ask(path, null, body || {}) || true; } catch (fault) {
     say(fault.isReply ? fault.message : 'The server is gone: is snowbench page still running?', true);
     return false;
   }
@@ -155,8 +155,13 @@ async function showLost() {
 }
 let ticking = 0;
 function take(news) {
-  const { words, outcomes, delta, marks, ...rest } = news, st = S.st, text = st.text, fault = JSON.stringify(st.fault);
+  const { words, outcomes, delta, marks, ...rest } = news, st = S.st, text = st.text, fault = JSON.stringify(st.fault), wasTrial = st.isTrial;
+  const isRead = rest.fault ? rest.fault.origin === 'file' : rest.text !== undefined && Boolean(rest.last) && rest.last.origin === 'file';
   Object.assign(st, rest);
+  // (a trial that is in the editor stays there as the file replaces it)
+  if (S.editing && ($('editor').value === inForce() || isRead && S.dropping)) setEditor();
+  else if (S.editing && isRead && wasTrial) S.dirty = true;
+  if (isRead) S.dropping = false;
   if (words) { S.words = words; S.out = outcomes; }
   if (delta) for (const [i, o] of delta) S.out[i] = o;
   // (a word that is new since the mark has no outcome there)
@@ -172,7 +177,7 @@ function take(news) {
   if (st.busy) ticking = setInterval(showStatus, 500);
   document.title = `${st.fault ? '✗ ' : ''}${st.names.script.split('/').pop()} – Voltizug`;
   showTop(rest);
-  if (S.editing && S.dirty && text !== undefined && text !== st.text && st.text !== $('editor').value) say('The script has changed. The text that you type here is kept, and is based on the script of before.', false);
+  if (S.editing && S.dirty && !isRead && text !== undefined && text !== st.text && st.text !== $('editor').value) say('The script has changed. The text that you type here is kept, and is based on the script of before.', false);
   if (text !== st.text || fault !== JSON.stringify(st.fault) || 'ink' in rest) showScript(); else if ('counts' in rest) layout(); else if ('script' in rest) showHint();
   showEditButtons();
   if (words || delta || marks || 'changes' in rest || 'script' in rest || 'counts' in rest && S.view === 'rule') show(true);
@@ -193,8 +198,9 @@ function showStatus() {
     box.className = 'bad';
     box.replaceChildren(dot, `${st.fault.all.length > 1 ? st.fault.all.length + ' faults' : 'fault'} in ${st.fault.origin === 'trial' ? 'the trial' : st.fault.isOfScript ? 'the file' : 'a file'}${st.text === undefined ? '' : ': all results are of the text before it'}`);
   } else {
-    box.className = st.isTrial ? 'busy' : '';
-    box.replaceChildren(dot, st.isTrial ? 'a trial, not in the file' : 'as in the file', last ? ` · ${last.at} · ${number(last.ms)} ms` : '');
+    box.className = st.isTrial || isTyped() ? 'busy' : '';
+    const of = st.isTrial ? 'a trial, not in the file' : st.base === st.file ? 'as in the file' : 'not what the file has now';
+    box.replaceChildren(dot, isTyped() ? `typed, not tried; the results are of ${st.isTrial ? 'the trial' : st.base === st.file ? 'the file' : 'the text before'}` : of, last ? ` · ${last.at} · ${number(last.ms)} ms` : '');
   }
 }
 // (of a figure what it counts, and that of one)
@@ -232,12 +238,12 @@ function showTop(news) {
   }
   showStatus();
   if ('fault' in news && st.fault && !st.fault.line) say(st.fault.sentence, true);
-  else if ('notice' in news && st.notice) say(st.notice, false);
+  else if ('notice' in news && st.notice && !(st.aside && S.editing)) say(st.notice, false, st.aside && ['Edit it again', () => editText(st.aside.text, st.aside.base)]);
   else if ('notice' in news || 'fault' in news) $('bar').hidden = true;
 }
-function say(sentence, bad) {
+function say(sentence, bad, act) {
   $('bar').className = 'bar' + (bad ? ' bad' : '');
-  $('bar').replaceChildren(el('p', {}, named(sentence)), el('button', { type: 'button', onclick: () => { $('bar').hidden = true; } }, 'Close'));
+  $('bar').replaceChildren(el('p', {}, named(sentence)), act ? el('button', { type: 'button', onclick: () => { $('bar').hidden = true; act[1](); } }, act[0]) : '', el('button', { type: 'button', onclick: () => { $('bar').hidden = true; } }, 'Close'));
   $('bar').hidden = false;
 }
 function showWarnings(on) { $('warnings').hidden = !on; $('warnings-button').setAttribute('aria-expanded', on); }
@@ -270,8 +276,7 @@ function common(shown, other) {
 // The place in one text that is the place AT in the other one, or -1.
 const moved = ({ head, tail }, at, end, to, from) => end <= head ? at : at >= from - tail ? at + to - from : -1;
 function showScript() {
-  if (S.editing && $('editor').value === inForce()) S.dirty = false;
-  else if (S.editing && !S.dirty) setEditor(inForce());
+  if (S.editing && ($('editor').value === inForce() || !S.dirty)) setEditor();
   layout();
 }
 function layout() {
@@ -425,7 +430,34 @@ function focusCount(n, by) {
 
 // The script as a trial
 
-function setEditor(text) { if ($('editor').value !== text) $('editor').value = text; S.dirty = false; }
+// The text of the file that the shown text was made from.
+const shownBase = () => S.st.fault && S.st.fault.text !== null && S.st.fault.isOfScript ? S.st.fault.base : S.st.base;
+const isTyped = () => S.editing && S.dirty;
+// Whether the file has something else than what the text was made from that a save would write.
+const isOutside = () => !S.saving && (isTyped() ? S.base : S.st.isTrial ? S.st.base : S.st.file) !== S.st.file;
+function setEditor() { if ($('editor').value !== inForce()) $('editor').value = inForce(); S.dirty = false; S.base = shownBase(); }
+function showOutside() {
+  const on = isOutside();
+  if ($('outside').hidden !== on) return;
+  $('outside').hidden = !on;
+  $('outside').replaceChildren(...(on ? [el('p', {}, `${file(S.st.names.script)} was changed outside after your text was begun. A save does not overwrite that.`), el('button', { type: 'button', onclick: merge }, 'Take the changes in'), el('button', { type: 'button', onclick: drop }, 'Back to the file')] : []));
+}
+// Takes what was changed in the file into the text.
+async function merge() {
+  const text = S.editing ? $('editor').value : S.st.text, reply = await post('merge', { text, base: isTyped() ? S.base : S.st.base }), name = file(S.st.names.script);
+  if (!reply || S.editing && $('editor').value !== text) return;
+  editText(reply.text, reply.base);
+  say(reply.both ? `${count(reply.both, 'place')} of ${name} and of your text differ: there the lines of ${name} are comments. Correct that, and save.` : `The changes of ${name} are in the text now.`, false);
+}
+// Shows a text in the editor that is not tried. (Ctrl+Z brings back what was there.)
+function editText(text, base) {
+  if (!S.editing) edit(true);
+  $('editor').focus({ preventScroll: true });
+  $('editor').select();
+  if (!document.execCommand('insertText', false, text)) $('editor').value = text;
+  Object.assign(S, { base });
+  typed();
+}
 function sizeEditor() {
   $('editor').style.height = S.lines.length * LINE + 88 + 'px';
   $('editor').style.width = Math.max($('lines').offsetWidth, $('code').clientWidth) - 112 + 'px';
@@ -434,7 +466,7 @@ function edit(on) {
   if (S.st.text === undefined && !S.st.fault) return;
   S.editing = on;
   document.body.classList.toggle('editing', on);
-  if (on) setEditor(inForce());
+  if (on) setEditor();
   $('editor').hidden = !on;
   S.dirty = false;
   layout();
@@ -452,6 +484,8 @@ function showEditButtons() {
   $('save').hidden = !is_there || !st.isTrial && !S.editing;
   $('save').disabled = !st.isTrial && !S.dirty;
   $('drop').hidden = !st.isTrial && !(st.fault && st.fault.origin === 'trial');
+  showOutside();
+  showStatus();
 }
 let pausing = 0, drawing = 0;
 function typed() {
@@ -465,25 +499,28 @@ function typed() {
   }, 250);
 }
 async function tryIt() {
-  if (!S.editing || !S.dirty) return true;
-  const text = $('editor').value, done = await post('trial', { text });
+  if (!S.editing || !S.dirty) return;
+  const text = $('editor').value, done = await post('trial', { text, base: S.base });
   // (what was typed while the words ran is not tried yet)
   if (done && $('editor').value === text) S.dirty = false;
   layout();
   showEditButtons();
-  return done && S.st.text === text;
 }
 let refused = 0;
 async function save() {
   if (!S.st.isTrial && !S.dirty) return;
-  // (the news of the trial may come after its reply)
-  if (S.dirty && !await tryIt()) { await new Promise(done => setTimeout(done, 200)); if (S.st.text !== $('editor').value) return; }
-  const sure = performance.now() - refused < 20000;
-  refused = await post('save', { sure }) ? 0 : performance.now();
+  const sure = performance.now() - refused < 20000, text = $('editor').value, body = isTyped() ? { text, base: S.base, sure } : { base: S.st.base, sure };
+  S.saving = true;
+  const reply = await post('save', body);
+  S.saving = false;
+  refused = reply ? 0 : performance.now();
+  if (body.text !== undefined && reply && reply.file) { S.base = reply.file; S.dirty = $('editor').value !== text; }
+  layout();
+  showEditButtons();
 }
 async function drop() {
-  S.dirty = false;
-  await post('reload');
+  S.dropping = true;
+  S.dropping = await post('reload') && S.dropping;
 }
 
 // The views

@@ -19,8 +19,8 @@ from urllib.parse import parse_qs, urlsplit
 from ..bench import Bench
 from ..kept import Kept, home
 from ..layout import named
-from ..options import usual_program
-from ..words import Refused
+from ..options import CALLED, usual_program
+from ..words import Refused, in_shell
 from .live import Live
 
 HERE = os.path.dirname(os.path.realpath(__file__))
@@ -135,7 +135,8 @@ class Handler(BaseHTTPRequestHandler):
             return
         live, given = self.server.live, body
         asked: Dict[str, Callable[[], Any]] = {
-            "trial": lambda: live.take_trial(given["text"]), "save": lambda: live.save(given.get("sure") is True), "reload": lambda: live.edit(["reload"], "file"),
+            "trial": lambda: live.take_trial(given["text"], str(given.get("base", ""))), "reload": lambda: live.edit(["reload"], "file"),
+            "save": lambda: live.save(given.get("sure") is True, given.get("text"), str(given.get("base", ""))), "merge": lambda: live.merge(given["text"], given["base"]),
             "undo": lambda: live.undo("undo", int(given["count"])), "redo": lambda: live.undo("redo", int(given["count"])), "stop": live.bench.program.break_off,
             "mark": lambda: live.mark(given.get("stems") is True), "limit": lambda: live.limit(str(given["limit"])),
             "add": lambda: live.add([str(word) for word in given["words"]]), "append": live.append, "tokens": lambda: live.tokens(given["text"]),
@@ -272,7 +273,7 @@ def main(given: Sequence[str]) -> int:
     try:
         return serve(options, bench)
     finally:
-        # (a trial that is in no file is kept)
-        if bench.kept.has("about"):
-            print("snowbench: what you tried is in no file, and is kept in %s" % named(bench.kept.room), file=sys.stderr)
+        if bench.kept.has("about", "added"):
+            call = " ".join([CALLED, "work", *map(in_shell, filter(None, (options.script, options.words)))])
+            print("snowbench: what you tried or added is in no file, and is kept. Start %s, and type rescue: it is there again." % call, file=sys.stderr)
         bench.close(is_kept=True)

@@ -23,6 +23,13 @@ local function hints()
   end
   return found
 end
+-- A line of the report, if its window is there.
+local function report_line(number)
+  for _, window in ipairs(vim.api.nvim_tabpage_list_wins(0)) do
+    local buffer = vim.api.nvim_win_get_buf(window)
+    if vim.bo[buffer].buftype == 'nofile' then return vim.api.nvim_buf_get_lines(buffer, number - 1, number, false)[1] end
+  end
+end
 local function trial()
   vim.g.snowbench = room .. '/snowbench'
   vim.cmd('source ' .. top .. '/client/editors/nvim/snowbench.lua')
@@ -33,6 +40,13 @@ local function trial()
   local line = vim.api.nvim_buf_get_lines(0, 27, 28, false)[1]
   vim.api.nvim_buf_set_lines(0, 27, 28, false, { (line:gsub('%(<%-.ss.%)', '(nowhere)')) })
   say('fault', until_so(function() return #vim.diagnostic.get(0) > 0 end) and vim.diagnostic.get(0)[1].message)
+  vim.api.nvim_buf_set_lines(0, 27, 28, false, { (line:gsub("'sses'", "'sses' 'sses'")) })
+  say('two', until_so(function() return vim.diagnostic.get(0)[1].message:match('twice') end) and 'true')
+  vim.api.nvim_win_set_cursor(0, { 28, 0 })
+  local titles
+  vim.ui.select = function(actions) titles = vim.tbl_map(function(action) return action[2].title end, actions) end
+  vim.lsp.buf.code_action()
+  say('fixes', vim.wait(20000, function() return titles end, 20) and titles[1])
   vim.api.nvim_buf_set_lines(0, 27, 28, false, { (line:gsub('%(<%-.ss.%)', '(delete)')) })
   say('corrected', until_so(function() return #vim.diagnostic.get(0) == 0 end))
   say('changed', lens('^1 word changed since the mark'))
@@ -41,9 +55,17 @@ local function trial()
   local before = vim.fn.line('.')
   vim.lsp.buf.definition()
   say('definition', until_so(function() return vim.fn.line('.') ~= before end) and vim.fn.getline('.'))
+  local script = vim.api.nvim_get_current_win()
   vim.cmd('SnowWhy caresses')
-  say('why', until_so(function() return vim.bo.buftype == 'nofile' end) and vim.fn.getline(1))
-  vim.cmd('bwipeout!')
+  say('why', until_so(function() return report_line(1) end) and report_line(1))
+  vim.cmd('SnowWhy ponies')
+  say('another', until_so(function() return report_line(1):match("'ies'") end) and report_line(1))
+  say('windows', #vim.api.nvim_tabpage_list_wins(0) .. ', in the script: ' .. tostring(vim.api.nvim_get_current_win() == script))
+  vim.cmd('wincmd j')
+  vim.cmd('SnowWhy caresses')
+  say('from the report', until_so(function() return report_line(1):match("'sses'") end) and #vim.api.nvim_tabpage_list_wins(0))
+  say('in the report', vim.bo.buftype)
+  vim.cmd('close')
   vim.lsp.buf.rename('first')
   say('rename', until_so(function() return vim.fn.search('do first', 'nw') > 0 end))
   vim.cmd('edit! ' .. room .. '/porter.words')
