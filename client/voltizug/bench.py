@@ -96,8 +96,9 @@ class Bench(Stage):
         # (called after an edit was accepted, and before it is asked what that changed)
         self.on_accepted: Callable[[], None] = lambda: None
         # The states of the files that were written here; the bytes of a text of SCRIPT that was refused; by the hash of a text of which one of SCRIPT
-        # it goes on from.
+        # it goes on from; the hash of the text that was rescued.
         self.written, self.refused_text, self.bases = {}, None, {}  # type: Dict[str, FileState], Optional[bytes], Dict[int, Optional[bytes]]
+        self.rescued = 0
         # The texts that were read, by their hashes; by the hash of a text that was saved to SCRIPT, or that a reload replaced, what SCRIPT had before.
         self.read_texts, self.replaced = set(), {}  # type: Set[int], Dict[int, bytes]
         # The texts that a reload replaced, with the names of their edits; the words that were added; what differs from the mark; families.
@@ -270,6 +271,9 @@ class Bench(Stage):
     def note_text(self, word: str, before: Moment, history: Sequence[Any], done: Sequence[Any]) -> Optional[Tuple[str, ...]]:
         """Notes which texts files have. Returns the names of the typed edits that a reload replaced."""
         text, aside, base, former = self.program.now.text, None, self.base, self.file_text or b""
+        if word not in ("undo", "redo") and hash(text) != self.rescued:
+            # (what is typed goes on from what it was typed over, also if there was the same text before)
+            self.bases[hash(text)] = base
         self.base = self.file_text if text == self.file_text else self.bases.setdefault(hash(text), base)
         if word == "undo" and before.text != text:
             # (what was replaced and undo takes back, the author drops)
@@ -300,7 +304,8 @@ class Bench(Stage):
         """Notes a text that is going to be rescued. If SCRIPT had another text when it was typed, returns what it has now and had not then."""
         if base is None or base == self.file_text:
             return None
-        self.bases[hash(read_file(path))] = base
+        self.rescued = hash(read_file(path))
+        self.bases[self.rescued] = base
         places = self.places()
         return [name for name, row in places.definitions.items() if places.text[int(row.start) : int(row.end)] not in base]
 
@@ -309,6 +314,11 @@ class Bench(Stage):
     def is_script(self, path: str) -> bool:
         """Whether a path is SCRIPT, also if that is gone."""
         return is_same(path, self.script) or os.path.realpath(path) == os.path.realpath(self.script)
+
+    @property
+    def is_older(self) -> bool:
+        """Whether SCRIPT has what the current script lacks, as after `undo`."""
+        return self.base != self.file_text
 
     def may_write(self, command: str, path: str) -> str:
         """Returns a key of words.MAY_NOT if a command, or a report, may not write to a file, or (with a ?) only if it is asked for again."""
@@ -328,7 +338,7 @@ class Bench(Stage):
             ("gone?", is_own and not is_there and self.script not in self.gone),
             ("gone", is_append and path == self.words and not os.path.lexists(path)),
             ("refused?", is_own and is_refused),
-            ("older?", is_own and self.base != self.file_text and self.script not in self.saved()),
+            ("older?", is_own and self.is_older and self.script not in self.saved()),
             ("there", not is_new and is_report and not os.path.isfile(path)),
             ("again?", is_other and not is_save),
             ("there", is_other and name not in self.written),

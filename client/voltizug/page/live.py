@@ -367,7 +367,7 @@ class Live:
             base = base or self.base()
             why = self.saves.check(is_sure, base, self.file_now())
             text = ink.shown_text(bench.program.now.text) if text is None else text
-            if why == "undone?" and not self.edit(["reload"], "file"):
+            if why == "older?" and not self.edit(["reload"], "file"):
                 # (what the file has is a step again: undo brings it back later)
                 raise Refused("%s cannot be read, and was not overwritten." % short(bench.script))
             self.take_trial(text, base)
