@@ -234,7 +234,8 @@ class Bench(Stage):
         step = ([row for row in done if row.kind == kind] or [None])[at]
         limits = [USUAL_LIMIT, *(row.rest[0] for row in done if row.kind == "done" and row.command == "limit")]
         program.now = before._replace(text=text, limit=limits[-1] if step and step.command == "limit" else before.limit)
-        program.note(lines, program.took)
+        if done != history or program.now != before:
+            program.note(lines, program.took)
         changes, stems, *pairs = program.ask_each([["changes"], ["stems" if before_it else "echo"], *families], has_grace=True)
         if program.state != DONE:
             # (the program that is there again has made this edit, too)

@@ -109,8 +109,8 @@ def absent(line: str, bench: Stage) -> str:
     command, _, word = line.partition(" ")
     words, form = bench.by_word(), folded(word)
     same = [other for other in words if folded(other).strip() == form.strip()]
-    found = list(map(in_quotes, same[:4]))
-    question = meant(word, words) if not same or composed(word) in map(composed, same) else " Did you mean %s?" % in_words(found, "or")
+    is_other = not same or composed(word) in map(composed, same)
+    question = meant(word, words) if is_other else " Did you mean %s?" % in_words(list(map(in_quotes, same[:4])), "or")
     if command == "class" and bench.known("stem " + word) is not None:
         return "%s is a stem and no word: stem %s shows its words." % (in_quotes(word), short(word))
     ways = ['"why {0}" shows how it would be stemmed'] * (not question and command not in ("remove", "why"))
