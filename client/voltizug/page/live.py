@@ -100,9 +100,9 @@ class Live:
                     self.is_restarted = False
                     self.publish(history=self.history())
 
-    def note_restart(self, _: Reply) -> None:
-        """Forgets the names of edits: a program that is started again has what was done since the mark as one edit."""
-        self.is_restarted, self.steps = True, []
+    def note_restart(self, reply: Optional[Reply]) -> None:
+        """Notes that the program is started again; without a reply it has several edits as one, and their names are forgotten."""
+        self.is_restarted, self.steps = True, self.steps if reply else []
 
     # Outcomes
 
