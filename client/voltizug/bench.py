@@ -116,6 +116,11 @@ class Bench(Stage):
             self.read_texts.add(hash(self.file_text))
         return reply
 
+    @property
+    def is_older(self) -> bool:
+        """Whether SCRIPT has something that the current script lacks, since that goes on from another text of SCRIPT."""
+        return self.base != self.file_text
+
     def note_file(self) -> None:
         self.file_text = self.base = self.bases[hash(self.program.now.text)] = self.program.now.text
 
@@ -329,7 +334,7 @@ class Bench(Stage):
             ("gone?", is_own and not is_there and self.script not in self.gone),
             ("gone", is_append and path == self.words and not os.path.lexists(path)),
             ("refused?", is_own and is_refused),
-            ("older?", is_own and self.base != self.file_text and self.script not in self.saved()),
+            ("undone?", is_own and self.is_older and self.script not in self.saved()),
             ("there", not is_new and is_report and not os.path.isfile(path)),
             ("again?", is_other and not is_save),
             ("there", is_other and name not in self.written),

@@ -40,7 +40,7 @@ MAY_NOT: Dict[str, str] = {
     "script": "{path} has the script, and {c} does not overwrite it. Nothing was written: {other}.",
     "changed": "{path} has changed since it was read, and was not overwritten. Enter reads it again; {other} to keep both.",
     "refused?": "{path} has a text that was refused. Nothing was written: correct it there{then}, or save {path} again overwrites it.",
-    "older?": "{path} has a change that the current script lacks. Nothing was written: Enter reads it again, save {path} again overwrites it.",
+    "undone?": "{path} has a change that the current script lacks. Nothing was written: Enter reads it again, save {path} again overwrites it.",
     "no words": "{path} is there already, and append puts words only into the file of words or a new file.",
     "gone": "{path} is not there any more, and was not written: {other}.",
     "gone?": "{path} is not there any more (deleted or renamed). Nothing was written: save {path} again writes it anew.",

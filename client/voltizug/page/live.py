@@ -30,7 +30,7 @@ MAY_NOT = {
     "changed": "{} was changed since it was read. Nothing was written.",
     "gone?": "{} is not there any more. Nothing was written. If you save again, it is written anew.",
     "refused?": "{} has a text that was refused. Nothing was written. If you save again, it is overwritten.",
-    "older?": "{} has what undo took back. Nothing was written. If you save again, it is overwritten.",
+    "undone?": "{} has what undo took back. Nothing was written. If you save again, it is overwritten.",
 }
 ORIGINS = {"file": "saved", "trial": "trial", "undo": "undo", "redo": "redo"}
 
