@@ -98,6 +98,7 @@ class Bench(Stage):
         # The states of the files that were written here; the bytes of a text of SCRIPT that was refused; by the hash of a text of which one of SCRIPT
         # it goes on from.
         self.written, self.refused_text, self.bases = {}, None, {}  # type: Dict[str, FileState], Optional[bytes], Dict[int, Optional[bytes]]
+        self.base: Optional[bytes] = None
         # The texts that were read, by their hashes; by the hash of a text that was saved to SCRIPT, or that a reload replaced, what SCRIPT had before.
         self.read_texts, self.replaced = set(), {}  # type: Set[int], Dict[int, bytes]
         # The texts that a reload replaced, with the names of their edits; the words that were added; what differs from the mark; families.
