@@ -203,9 +203,12 @@ class Sessions(Case):
         self.assertEqual(terminal.enter("why news glass").split("\n")[-1], said)
 
     def test_a_script_that_is_gone(self):
-        terminal = self.begin()
+        """It is said once, also by a watch; after that the first save writes it anew."""
+        terminal = self.begin(watches=True)
         os.remove(os.path.join(self.folder, "my.sbl"))
         self.assertEqual(terminal.enter(""), "my.sbl cannot be read: there is no such file. The script that was read stays: save FILE keeps it.")
+        self.assertEqual(terminal.got(None, 1.5), "")
+        self.assertEqual(terminal.enter("save my.sbl"), "saved in my.sbl")
 
     def test_a_script_that_is_gone_is_saved_anew_if_that_is_asked_for_again(self):
         terminal, script = self.begin(), os.path.join(self.folder, "my.sbl")
@@ -301,6 +304,34 @@ define stem as backwards ( do r do s )
         self.assertEqual(terminal.enter("stats"), 'Nothing was added: "stats" is no answer to this.')
         self.assertIn("kato", terminal.enter("quit"))
         self.assertEqual(terminal.enter("append"), "2 words are now at the end of my.words.")
+
+    def test_several_words_are_removed(self):
+        terminal = self.begin(words="news\nglass\na b\n")
+        terminal.type("remove news glass\r", rb"nothing: $")
+        kept = " is removed, but my.words still has it."
+        self.assertEqual(terminal.enter("y").split("\n"), ["news" + kept, "glass" + kept])
+        self.assertEqual(terminal.enter("remove a b"), "a b" + kept)
+        terminal.type("remove news glass\r", rb"nothing: $")
+        self.assertEqual(terminal.enter("stats"), 'Nothing was removed: "stats" is no answer to this.')
+
+    def test_another_form_of_unicode(self):
+        """A word that is there in another one, a text of words, and what is typed; `lint` says it of the script once."""
+        script = "externals ( stem )\ngroupings ( v )\ndefine v '\u0101'\ndefine stem as ( [ among ( 'a\u0304s' 'a\u0304t' ) ] delete )\n"
+        terminal = self.begin(script, "\u0101bols\nm\u0101ja\n")
+        form, apart = "It is there in another form of Unicode (NFC and NFD are different words).", "a letter and its accent are two characters (NFD)"
+        self.assertIn("my.sbl:4: " + apart, self.start)
+        shown = terminal.enter("lint")
+        self.assertEqual((shown.count("(NFD)"), shown.count("uconv -x any-nfc my.sbl"), shown.count("U+0304")), (1, 1, 0))
+        self.assertEqual(terminal.enter("why a\u0304bols").split("\n")[-1], "  a\u0304bols is not in the vocabulary. " + form)
+        for command in ("class", "remove", "trace"):
+            self.assertEqual(terminal.enter(command + " a\u0304bols"), "a\u0304bols is not in the vocabulary. " + form)
+        self.assertEqual(terminal.enter("find a\u0304b"), "no word and no stem has it in this form of Unicode (NFC and NFD are different words)")
+        self.assertEqual(terminal.enter("find \u0113"), "no word and no stem has it")
+        shown = terminal.enter("grouping v", "'a\u0304'", ".").split("\n")
+        self.assertEqual((shown[0][: 14 + len(apart)], shown[-1]), ("grouping v:1: " + apart, "no word and no class differs from the mark"))
+        self.assertEqual(terminal.enter("add a\u0304bols").split("\n"), ["a\u0304bols is added: a\u0304bols", form])
+        terminal.enter("remove a\u0304bols")
+        self.assertIn("add e\u0304st:1: " + apart, terminal.enter("add e\u0304st"))
 
     def test_a_question_is_broken_at_blanks(self):
         for term in ("dumb", "xterm"):

@@ -99,6 +99,7 @@ class Bench(Stage):
         # it goes on from; the hash of the text that was rescued.
         self.written, self.refused_text, self.bases = {}, None, {}  # type: Dict[str, FileState], Optional[bytes], Dict[int, Optional[bytes]]
         self.rescued = 0
+        self.base: Optional[bytes] = None
         # The texts that were read, by their hashes; by the hash of a text that was saved to SCRIPT, or that a reload replaced, what SCRIPT had before.
         self.read_texts, self.replaced = set(), {}  # type: Set[int], Dict[int, bytes]
         # The texts that a reload replaced, with the names of their edits; the words that were added; what differs from the mark; families.
@@ -116,6 +117,11 @@ class Bench(Stage):
             self.note_file()
             self.read_texts.add(hash(self.file_text))
         return reply
+
+    @property
+    def is_older(self) -> bool:
+        """Whether SCRIPT has something that the current script lacks, since that goes on from another text of SCRIPT."""
+        return self.base != self.file_text
 
     def note_file(self) -> None:
         self.file_text = self.base = self.bases[hash(self.program.now.text)] = self.program.now.text
@@ -235,7 +241,8 @@ class Bench(Stage):
         step = ([row for row in done if row.kind == kind] or [None])[at]
         limits = [USUAL_LIMIT, *(row.rest[0] for row in done if row.kind == "done" and row.command == "limit")]
         program.now = before._replace(text=text, limit=limits[-1] if step and step.command == "limit" else before.limit)
-        program.note(lines, program.took)
+        if done != history or program.now != before:
+            program.note(lines, program.took)
         changes, stems, *pairs = program.ask_each([["changes"], ["stems" if before_it else "echo"], *families], has_grace=True)
         if program.state != DONE:
             # (the program that is there again has made this edit, too)
@@ -338,7 +345,7 @@ class Bench(Stage):
             ("gone?", is_own and not is_there and self.script not in self.gone),
             ("gone", is_append and path == self.words and not os.path.lexists(path)),
             ("refused?", is_own and is_refused),
-            ("older?", is_own and self.is_older and self.script not in self.saved()),
+            ("undone?", is_own and self.is_older and self.script not in self.saved()),
             ("there", not is_new and is_report and not os.path.isfile(path)),
             ("again?", is_other and not is_save),
             ("there", is_other and name not in self.written),

@@ -14,9 +14,7 @@ LARGEST, YOUNG = 1 << 26, 60
 FileState = Optional[Tuple[int, int, int]]
 # What was left behind: the folder, the file in it that has the text with typed edits, their names, added words, lines of an open block, and the text
 # of SCRIPT that the edits were typed over.
-Left = NamedTuple("Left", [
-    ("room", str), ("path", str), ("edits", List[str]), ("words", List[str]), ("block", List[str]), ("base", Optional[bytes])
-])
+Left = NamedTuple("Left", [("room", str), ("path", str), ("edits", List[str]), ("words", List[str]), ("block", List[str]), ("base", Optional[bytes])])
 
 
 class Kept:

@@ -66,8 +66,6 @@ class Terminal(Desk):
             self.screen.say(wrong)
         elif line == "families" and self.bench.families and not self.editor.pending:
             self.ask(line)
-        elif line in ("", "reload") and self.bench.script in self.bench.gone and not os.path.exists(self.bench.script):
-            self.screen.say("%s is still not there: save FILE writes the current script." % short(self.bench.script))
         elif line in ("", "reload", "undo", "redo") or command in ("limit", "replace") and argument:
             # (Enter is for what was saved)
             drops = not line and self.bench.script not in self.bench.saved() and self.bench.is_unsaved(self.bench.program.now.text)
@@ -220,21 +218,18 @@ class Terminal(Desk):
         if self.is_done(self.bench.ask(("mark " + whole).rstrip()), line):
             self.screen.say(said, layout.figures(self.bench.changes) if path else "The mark is set: changes are counted from here.")
 
-    def do_add(self, text: str) -> None:
-        self.change_words("add", text, 'Add %d words (%s)? y adds them, "one" adds one word with blanks in it, Enter adds nothing: ')
-
-    def do_remove(self, text: str) -> None:
-        is_one = " " not in text or text in self.bench.by_word()
-        self.change_words("remove", text, "" if is_one else "Remove %d words (%s)? y removes them, Enter removes nothing: ")
-
-    def change_words(self, command: str, text: str, question: str) -> None:
+    def do_add(self, text: str, command: str = "add") -> None:
         parts, reply = text.split(), "one"
-        if len(parts) > 1 and question and not self.editor.pending:
-            reply = self.asked(question % (len(parts), in_words(parts, "and", 6))).lower()
+        if len(parts) > 1 and not self.editor.pending:
+            prompt = '{0} %d words (%s)? y {1}s them, "one" {1}s one word with blanks in it, Enter {1}s nothing: '.format(command.capitalize(), command)
+            reply = self.asked(prompt % (len(parts), in_words(parts, "and", 6))).lower()
         for word in {"one": [text], "y": parts, "yes": parts}.get(reply, []):
             self.ask(command + " " + word)
         if reply not in ("", "one", "y", "yes"):
-            self.screen.say("Nothing was %s: %s is no answer to this." % (command.rstrip("e") + "ed", words.in_quotes(reply, True)))
+            self.screen.say("Nothing was %sed: %s is no answer to this." % (command.rstrip("e"), words.in_quotes(reply, True)))
+
+    def do_remove(self, text: str) -> None:
+        self.ask("remove " + text) if text in self.bench.by_word() else self.do_add(text, "remove")
 
     def asked(self, question: str) -> str:
         """Returns what is typed after a question. It is broken at blanks here: readline breaks a word."""

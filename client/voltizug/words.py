@@ -40,7 +40,7 @@ MAY_NOT: Dict[str, str] = {
     "script": "{path} has the script, and {c} does not overwrite it. Nothing was written: {other}.",
     "changed": "{path} has changed since it was read, and was not overwritten. Enter reads it again; {other} to keep both.",
     "refused?": "{path} has a text that was refused. Nothing was written: correct it there{then}, or save {path} again overwrites it.",
-    "older?": "{path} has a change that the current script lacks. Nothing was written: Enter reads it again, save {path} again overwrites it.",
+    "undone?": "{path} has a change that the current script lacks. Nothing was written: Enter reads it again, save {path} again overwrites it.",
     "no words": "{path} is there already, and append puts words only into the file of words or a new file.",
     "gone": "{path} is not there any more, and was not written: {other}.",
     "gone?": "{path} is not there any more (deleted or renamed). Nothing was written: save {path} again writes it anew.",
@@ -109,8 +109,8 @@ def absent(line: str, bench: Stage) -> str:
     command, _, word = line.partition(" ")
     words, form = bench.by_word(), folded(word)
     same = [other for other in words if folded(other).strip() == form.strip()]
-    found = list(map(in_quotes, same[:4]))
-    question = meant(word, words) if not same or composed(word) in map(composed, same) else " Did you mean %s?" % in_words(found, "or")
+    is_other = not same or composed(word) in map(composed, same)
+    question = meant(word, words) if is_other else " Did you mean %s?" % in_words(list(map(in_quotes, same[:4])), "or")
     if command == "class" and bench.known("stem " + word) is not None:
         return "%s is a stem and no word: stem %s shows its words." % (in_quotes(word), short(word))
     ways = ['"why {0}" shows how it would be stemmed'] * (not question and command not in ("remove", "why"))

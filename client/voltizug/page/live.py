@@ -101,9 +101,9 @@ class Live:
                     self.is_restarted = False
                     self.publish(history=self.history())
 
-    def note_restart(self, _: Reply) -> None:
-        """Forgets the names of edits: a program that is started again has what was done since the mark as one edit."""
-        self.is_restarted, self.steps = True, []
+    def note_restart(self, reply: Optional[Reply]) -> None:
+        """Notes that the program is started again; without a reply it has several edits as one, and their names are forgotten."""
+        self.is_restarted, self.steps = True, self.steps if reply else []
 
     # Outcomes
 
@@ -367,7 +367,7 @@ class Live:
             base = base or self.base()
             why = self.saves.check(is_sure, base, self.file_now())
             text = ink.shown_text(bench.program.now.text) if text is None else text
-            if why == "older?" and not self.edit(["reload"], "file"):
+            if why == "undone?" and not self.edit(["reload"], "file"):
                 # (what the file has is a step again: undo brings it back later)
                 raise Refused("%s cannot be read, and was not overwritten." % short(bench.script))
             self.take_trial(text, base)

@@ -10,7 +10,7 @@ MAY_NOT = {
     "outside": "{} was changed outside since your text was begun. Nothing was written.",
     "changed": "{} was changed since it was read. Nothing was written.",
     "gone?": "{} is not there any more. Nothing was written. If you save again, it is written anew.",
-    "older?": "{} has what undo took back. Nothing was written. If you save again, it is overwritten.",
+    "undone?": "{} has what undo took back. Nothing was written. If you save again, it is overwritten.",
 }
 
 
