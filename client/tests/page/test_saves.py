@@ -254,6 +254,21 @@ class SavesInBrowser(Page):
         tab.wait("$('outside').hidden && $('editor').value === %r" % THEIRS)
         self.assertEqual((self.file(), tab.run("S.dirty")), (THEIRS, False))
 
+    def test_a_faulty_trial_in_the_editor(self):
+        """It is in no step of undo, and stays in the editor whatever replaces it."""
+        for replace, name in ((lambda tab: self.save_outside(THEIRS), "outside"), (lambda tab: tab.run("post('undo', { count: 1 })"), "undo")):
+            tab = self.open()
+            tab.run("post('trial', { text: %r })" % OTHER)
+            tab.wait("S.st.isTrial && S.st.history.done.length === 1")
+            self.type(tab, "// mine\n !")
+            tab.press("Enter", modifiers=2)
+            tab.wait("S.st.fault && !S.dirty")
+            text = tab.run("$('editor').value")
+            replace(tab)
+            tab.wait("!S.st.fault && S.dirty")
+            tab.wait("S.st.ink.script === S.st.script")
+            self.assertEqual((tab.run("$('editor').value"), tab.run("!$('outside').hidden")), (text, name == "outside"))
+
     def test_a_trial_outside_the_editor(self):
         tab = self.open()
         tab.run("post('trial', { text: %r })" % TYPED)
