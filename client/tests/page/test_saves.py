@@ -192,8 +192,8 @@ class SavesInBrowser(Page):
     def tearDownClass(cls) -> None:
         cls.browser.close()
 
-    def open(self) -> Tab:
-        self.live = self.page()
+    def open(self, script: str = SCRIPT) -> Tab:
+        self.live = self.page(script)
         self.watch(self.live)
         self.server = self.serve(self.live)
         return self.tab()
@@ -280,6 +280,15 @@ class SavesInBrowser(Page):
         tab.wait("S.editing && $('editor').value === %r && !$('outside').hidden" % TYPED)
         tab.run("$('outside').querySelector('button').click()")
         tab.wait("$('outside').hidden && $('editor').value === %r" % (THEIRS + "// mine\n"))
+
+    def test_a_long_script(self):
+        """Its changes are taken in at once."""
+        tab = self.open("// %s\n" % ("x" * 60) * 3000 + SCRIPT)
+        tab.run("edit(true), $('editor').value += '// mine\\n', typed()")
+        self.save_outside("// theirs\n" + self.file())
+        tab.wait("!$('outside').hidden")
+        self.assertLess(tab.run("merge().then((begun => () => performance.now() - begun)(performance.now()))"), 5000)
+        self.assertTrue(tab.run("$('outside').hidden && $('editor').value.startsWith('// theirs') && $('editor').value.includes('// mine')"))
 
     def test_two_tabs(self):
         """What another page saves is outside, too."""

@@ -450,12 +450,11 @@ async function merge() {
   editText(reply.text, reply.base);
   say(reply.both ? `${count(reply.both, 'place')} of ${name} and of your text differ: there the lines of ${name} are comments. Correct that, and save.` : `The changes of ${name} are in the text now.`, false);
 }
-// Shows a text in the editor that is not tried. (Ctrl+Z brings back what was there.)
+// Shows a text in the editor that is not tried.
 function editText(text, base) {
   if (!S.editing) edit(true);
+  $('editor').value = text;
   $('editor').focus({ preventScroll: true });
-  $('editor').select();
-  if (!document.execCommand('insertText', false, text)) $('editor').value = text;
   Object.assign(S, { base });
   typed();
 }
