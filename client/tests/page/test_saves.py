@@ -192,8 +192,8 @@ class SavesInBrowser(Page):
     def tearDownClass(cls) -> None:
         cls.browser.close()
 
-    def open(self) -> Tab:
-        self.live = self.page()
+    def open(self, script: str = SCRIPT) -> Tab:
+        self.live = self.page(script)
         self.watch(self.live)
         self.server = self.serve(self.live)
         return self.tab()
@@ -254,6 +254,21 @@ class SavesInBrowser(Page):
         tab.wait("$('outside').hidden && $('editor').value === %r" % THEIRS)
         self.assertEqual((self.file(), tab.run("S.dirty")), (THEIRS, False))
 
+    def test_a_faulty_trial_in_the_editor(self):
+        """It is in no step of undo, and stays in the editor whatever replaces it."""
+        for replace, name in ((lambda tab: self.save_outside(THEIRS), "outside"), (lambda tab: tab.run("post('undo', { count: 1 })"), "undo")):
+            tab = self.open()
+            tab.run("post('trial', { text: %r })" % OTHER)
+            tab.wait("S.st.isTrial && S.st.history.done.length === 1")
+            self.type(tab, "// mine\n !")
+            tab.press("Enter", modifiers=2)
+            tab.wait("S.st.fault && !S.dirty")
+            text = tab.run("$('editor').value")
+            replace(tab)
+            tab.wait("!S.st.fault && S.dirty")
+            tab.wait("S.st.ink.script === S.st.script")
+            self.assertEqual((tab.run("$('editor').value"), tab.run("!$('outside').hidden")), (text, name == "outside"))
+
     def test_a_trial_outside_the_editor(self):
         tab = self.open()
         tab.run("post('trial', { text: %r })" % TYPED)
@@ -265,6 +280,15 @@ class SavesInBrowser(Page):
         tab.wait("S.editing && $('editor').value === %r && !$('outside').hidden" % TYPED)
         tab.run("$('outside').querySelector('button').click()")
         tab.wait("$('outside').hidden && $('editor').value === %r" % (THEIRS + "// mine\n"))
+
+    def test_a_long_script(self):
+        """Its changes are taken in at once."""
+        tab = self.open("// %s\n" % ("x" * 60) * 3000 + SCRIPT)
+        tab.run("edit(true), $('editor').value += '// mine\\n', typed()")
+        self.save_outside("// theirs\n" + self.file())
+        tab.wait("!$('outside').hidden")
+        self.assertLess(tab.run("merge().then((begun => () => performance.now() - begun)(performance.now()))"), 5000)
+        self.assertTrue(tab.run("$('outside').hidden && $('editor').value.startsWith('// theirs') && $('editor').value.includes('// mine')"))
 
     def test_two_tabs(self):
         """What another page saves is outside, too."""

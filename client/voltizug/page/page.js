@@ -155,12 +155,12 @@ async function showLost() {
 }
 let ticking = 0;
 function take(news) {
-  const { words, outcomes, delta, marks, ...rest } = news, st = S.st, text = st.text, fault = JSON.stringify(st.fault), wasTrial = st.isTrial;
+  const { words, outcomes, delta, marks, ...rest } = news, st = S.st, text = st.text, fault = JSON.stringify(st.fault), wasTrial = st.isTrial, wasFaulty = Boolean(st.fault) && st.fault.origin === 'trial';
   const isRead = rest.fault ? rest.fault.origin === 'file' : rest.text !== undefined && Boolean(rest.last) && rest.last.origin === 'file';
   Object.assign(st, rest);
-  // (a trial that is in the editor stays there as the file replaces it)
+  // (a trial that is in the editor stays there as the file replaces it, and one with a fault as anything replaces it)
   if (S.editing && ($('editor').value === inForce() || isRead && S.dropping)) setEditor();
-  else if (S.editing && isRead && wasTrial) S.dirty = true;
+  else if (S.editing && (isRead && wasTrial || wasFaulty)) S.dirty = true;
   if (isRead) S.dropping = false;
   if (words) { S.words = words; S.out = outcomes; }
   if (delta) for (const [i, o] of delta) S.out[i] = o;
@@ -446,15 +446,15 @@ function showOutside() {
 async function merge() {
   const text = S.editing ? $('editor').value : S.st.text, reply = await post('merge', { text, base: isTyped() ? S.base : S.st.base }), name = file(S.st.names.script);
   if (!reply || S.editing && $('editor').value !== text) return;
+  S.st.file = reply.base;
   editText(reply.text, reply.base);
   say(reply.both ? `${count(reply.both, 'place')} of ${name} and of your text differ: there the lines of ${name} are comments. Correct that, and save.` : `The changes of ${name} are in the text now.`, false);
 }
-// Shows a text in the editor that is not tried. (Ctrl+Z brings back what was there.)
+// Shows a text in the editor that is not tried.
 function editText(text, base) {
   if (!S.editing) edit(true);
+  $('editor').value = text;
   $('editor').focus({ preventScroll: true });
-  $('editor').select();
-  if (!document.execCommand('insertText', false, text)) $('editor').value = text;
   Object.assign(S, { base });
   typed();
 }
@@ -500,21 +500,24 @@ function typed() {
 }
 async function tryIt() {
   if (!S.editing || !S.dirty) return;
-  const text = $('editor').value, done = await post('trial', { text, base: S.base });
-  // (what was typed while the words ran is not tried yet)
-  if (done && $('editor').value === text) S.dirty = false;
+  // (the news say what was tried)
+  await post('trial', { text: $('editor').value, base: S.base });
   layout();
   showEditButtons();
 }
 let refused = 0;
 async function save() {
-  if (!S.st.isTrial && !S.dirty) return;
+  if (!S.st.isTrial && !S.dirty || S.saving) return;
   const sure = performance.now() - refused < 20000, text = $('editor').value, body = isTyped() ? { text, base: S.base, sure } : { base: S.st.base, sure };
   S.saving = true;
   const reply = await post('save', body);
   S.saving = false;
   refused = reply ? 0 : performance.now();
-  if (body.text !== undefined && reply && reply.file) { S.base = reply.file; S.dirty = $('editor').value !== text; }
+  // (the news may come later; what was typed meanwhile is based on what was saved)
+  if (reply && reply.file) {
+    Object.assign(S.st, { file: reply.file }, isTyped() ? {} : { base: reply.file, isTrial: false });
+    S.base = reply.file;
+  }
   layout();
   showEditButtons();
 }
