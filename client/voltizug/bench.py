@@ -322,11 +322,6 @@ class Bench(Stage):
         """Whether a path is SCRIPT, also if that is gone."""
         return is_same(path, self.script) or os.path.realpath(path) == os.path.realpath(self.script)
 
-    @property
-    def is_older(self) -> bool:
-        """Whether SCRIPT has what the current script lacks, as after `undo`."""
-        return self.base != self.file_text
-
     def may_write(self, command: str, path: str) -> str:
         """Returns a key of words.MAY_NOT if a command, or a report, may not write to a file, or (with a ?) only if it is asked for again."""
         name, folder, is_there = os.path.realpath(path), os.path.dirname(path) or ".", os.path.exists(path)
