@@ -18,7 +18,7 @@ use Rattle.sbl_text.specs.Literals.{byte_length, character_named, insertion_valu
 use Rattle.sbl_text.specs.inside.LiteralParts.{Refusal, code_or_fault, value_or_character}
 use Rattle.sbl_text.specs.Tokens.{PlacedToken, fault_at, IsRefused, IsFirstFaultFrom, ArePlaced}
 use Rattle.sbl_text.specs.inside.TokenParts.{starts_star, pair_fault, token_fault}
-use Rattle.sbl_ast.specs.Texts.{Text}
+use Rattle.sbl_ast.specs.Texts.{Text, script}
 use Rattle.sbl_parser.specs.Reading.{IsSyntaxAt, IsTooDeepAt, IsOutOfProfileAt}
 use Rattle.sbl_script.specs.Reading.{IsUnread, place_of, lexemes}
 use Rattle.sbl_source_map.specs.FaultLists.{IsUnreadText}
@@ -113,7 +113,7 @@ pub not_utf8 : (bytes : List ℕ) → IsUnreadText bytes fault.NotUtf8 → IsUtf
 not_utf8 bytes (inl (inl (long, same))) utf8 = absurd cc
 not_utf8 bytes (inl (inr (inl (short, not_text, same)))) utf8 = not_text utf8
 not_utf8 bytes (inl (inr (inr (short, text, h)))) utf8 = let e : false ≡ true = of_tokens _ _ fault.NotUtf8 h in absurd (cc e)
-not_utf8 bytes (inr (ts, tokens, h)) utf8 = let e : false ≡ true = of_grammar _ ts _ fault.NotUtf8 h in absurd (cc e)
+not_utf8 bytes (inr (ts, tokens, h)) utf8 = let e : false ≡ true = of_grammar script ts _ fault.NotUtf8 h in absurd (cc e)
 
 -- a text that is not read with a fault that has a place is UTF-8
 pub is_text : (bytes : List ℕ) (f : ScriptFault) (place : ℕ) → IsUnreadText bytes f → place_in f ≡ Some place → IsUtf8 bytes
