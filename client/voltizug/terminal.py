@@ -17,7 +17,7 @@ from .keys import Broken, Dropped, Hangup
 from .layout import counted, in_words, short
 from .near import composed, meant
 from .places import BOM, readable
-from .program import DONE, encoded
+from .program import BROKEN, DONE, ENDED, encoded
 
 DEFINITION = re.compile(r"\s*define\s+([A-Za-z][A-Za-z0-9_]*)\s+(as(?=\s|$))?")
 TO_FILE = re.compile(r"(.*\S)\s+>\s*(\S+|[^|>\s][^|>]*\S)\s*\Z")
@@ -241,8 +241,13 @@ class Terminal(Desk):
         line, name = "%s %s" % (command, path), short(path)
         if path and not self.may_write(line, path):
             return
-        stems, comments, reply = kept.read_lines(path), self.comments(path), self.bench.write(command, path)
-        if self.is_done(reply, line) and command == "approve":
+        before, stems, comments = kept.read_file(path), kept.read_lines(path), self.comments(path)
+        reply = self.bench.write(command, path)
+        is_same = kept.read_file(path) == before
+        if reply.state == BROKEN or reply.state == ENDED and not is_same:
+            # (the file may have been written before the program ended)
+            self.screen.say("Nothing changed." if is_same else "%s has the %s now." % (name, "script" if command == "save" else "stems"))
+        elif self.is_done(reply, line) and command == "approve":
             now = kept.read_lines(path)
             others = " %s other than before." % counted(sum(map(ne, stems, now)), "stem is", "stems are")
             self.screen.say("The stems are in %s." % name + others * (0 < len(stems) == len(now)), self.unkept_words())
