@@ -1,19 +1,20 @@
 """The parts that know no terminal: rows, layouts, loops, near names, warnings, options, what is kept."""
 import os
 import time
+import unittest.mock
 from types import SimpleNamespace
 
-from voltizug import layout, lints, loops, near, options, reports, rows, warn, words
-from voltizug.bench import Edit
+from voltizug import bench, layout, lints, loops, near, options, reports, rows, warn, words
+from voltizug.bench import Edit, Stage
 from voltizug.completion import Completion
 from voltizug.conditions import Routine
 from voltizug.editor.judge import place_of
 from voltizug.editor.names import Names
-from voltizug.kept import Kept
+from voltizug.kept import Kept, state_of
 from voltizug.places import Places, line_and_column
 from voltizug.program import Reply
 
-from .kit import Case
+from .kit import Case, write
 
 
 class Layouts(Case):
@@ -171,7 +172,7 @@ class Others(Case):
         """As a Cyrillic a in the place of a Latin one, and a c with another sign over it."""
         found = rows.read("places", ["entry,stem,1,аcč,10,17,1,11", "entry,stem,1,bcdefghi,20,30,1,21"])
         places = Places("my.sbl", b"", b"", found, [])
-        shown = lints.strange_strings(places, [rows.Outcome("a", "stem", "a")], [])
+        shown = lints.strange_strings(lints.Script(places), [rows.Outcome("a", "stem", "a")])
         what = "'%s' has %s, which no word has and no command puts in"
         self.assertEqual(list(shown), [
             (10, what % ("аcč", "c, č (U+010D) and а (U+0430)")), (20, what % ("bcdefghi", "b, c, d, e, f and 3 more")),
@@ -227,6 +228,22 @@ class Others(Case):
     def test_only_what_help_lists_is_completed(self):
         completion = Completion(SimpleNamespace(is_waiting=False))
         self.assertEqual([completion.complete("e", "e"), completion.complete("help e", "e")], [["events "], ["events"]])
+
+    def test_a_file_that_is_written_in_place_is_not_ready_at_once(self):
+        room = self.room(my_sbl="text")
+        script = os.path.join(room, "my.sbl")
+        stage = Stage(None, script, None)
+        stage.seen = {script: state_of(script)}
+        with unittest.mock.patch.object(bench, "QUIET", 60):
+            with open(script, "a") as file:
+                file.write(" and more")
+            self.assertEqual((list(stage.saved()), list(stage.ready())), ([script], []))
+            write(script, "another file")
+            self.assertEqual(list(stage.ready()), [script])
+        with open(script, "a") as file:
+            file.write(" and more")
+        os.utime(script, (time.time() - 1,) * 2)
+        self.assertEqual(list(stage.ready()), [script])
 
     def test_what_was_left_behind(self):
         room = self.room(my_sbl="text")

@@ -9,8 +9,8 @@ from .kept import FileState, Kept, is_same, read_file, state_of
 from .places import LARGEST, Places
 from .program import BROKEN, BROKEN_OFF, DONE, ENDED, USUAL_LIMIT, Memory, Moment, Program, Reply
 
-# After so many seconds a file that is not there is gone: no editor is just saving it.
-GONE = 1
+# After so many seconds a file that is not there, or empty, is so: no editor is just saving it. After so many a file that is written in place has all.
+GONE, QUIET = 1, 0.05
 
 
 class Edit(NamedTuple):
@@ -41,13 +41,17 @@ class Stage:
 
     def saved(self) -> Dict[str, FileState]:
         """Returns the files that were saved since they were read, with their states. (An editor may take a file away or empty it for a moment.)"""
-        now = {path: (state_of(path), state) for path, state in dict(self.seen).items()}
-        changed = {path: state for path, (state, before) in now.items() if state and state != before}
-        return {path: state for path, state in changed.items() if state[1] or abs(time.time() - state[0] / 1e9) > 1}
+        found = {path: state for path, before in dict(self.seen).items() for state in [state_of(path)] if state != before}
+        return {path: state for path, state in found.items() if state and (state[1] or age(state) > GONE)}
+
+    def ready(self) -> Dict[str, FileState]:
+        """Returns those of the saved files that are not being written: most editors write another file, which then takes the name."""
+        seen = dict(self.seen)
+        return {path: state for path, state in self.saved().items() if not seen[path] or seen[path][2] != state[2] or age(state) > QUIET}
 
     def news(self) -> Dict[str, FileState]:
         """Returns what is to be said of files: those that were saved, those that are gone (they have no state), and those that are there again."""
-        found = self.saved()
+        found = self.ready()
         for path, before in dict(self.seen).items():
             state = state_of(path)
             if state:
@@ -71,7 +75,6 @@ class Stage:
         return rows.read(line.partition(" ")[0], self.known(line) or [])
 
     def places(self) -> Places:
-        """Returns where everything is in the current text, and in SCRIPT."""
         text, known = self.program.now.text, self.known_places
         if known is None or known.text is not text or known.file_text != self.file_text:
             tokens = self.known("tokens") if len(text) <= LARGEST else None
@@ -114,7 +117,6 @@ class Bench(Stage):
         return reply
 
     def note_file(self) -> None:
-        """Notes that SCRIPT has the current text."""
         self.file_text, self.is_older = self.program.now.text, False
 
     def look(self, *paths: str) -> None:
@@ -313,7 +315,6 @@ class Bench(Stage):
         ) if is_so), "")
 
     def write(self, command: str, path: str) -> Reply:
-        """Has the program write the script (`save`) or the stems (`approve`) to a file."""
         is_own = self.is_script(path)
         reply = self.write_anew() if is_own and not os.path.exists(path) else self.ask("%s %s" % (command, self.script if is_own else path))
         if reply.is_done:
@@ -340,6 +341,10 @@ class Bench(Stage):
             return reply
         except OSError:
             return Reply(DONE, ["no 57 NoFile"], [])
+
+
+def age(state: Tuple[int, int, int]) -> float:
+    return abs(time.time() - state[0] / 1e9)
 
 
 def pairs_of(*replies: Reply) -> Tuple[Any, ...]:

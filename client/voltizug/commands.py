@@ -43,6 +43,9 @@ WITH_FILE, REPORT = ("|".join(names) for names in ([name for name in COMMANDS if
 BEFORE_FILE, QUOTED = ("(?:%s) " % WITH_FILE, r"(?:%s)(?:\s.*)?\s>\s*" % REPORT), r"""(["']).*\1(?:\s>.*|\s*)\Z"""
 NO_FILE = [(before + QUOTED, "Names of files are written without quotes, blanks included, and nothing was done.") for before in BEFORE_FILE]
 NO_FILE += [("(?!%s)%s[<>|]" % (REPORT, BEFORE_FILE[0]), "{c} takes the name of a file, without a sign before it: {usage}.")]
+ALONE = "|".join(name for name in REPORTING if name not in COMMANDS or not COMMANDS[name].takes)
+INTO_FILE = "A report goes into a file by > FILE, with blanks around the >, as in: classes > my.classes. There are no pipes here."
+NO_FILE += [(r"(?!uses )(?:%s) (?:(?:.* )?(?:\||>>) .|.* >\Z)|(?:%s) (?:\||>>?)\Z" % (REPORT, ALONE), INTO_FILE)]
 # How a comment and a declaration of a script begin.
 COMMENT, DECLARATION = r"\s*(//|/\*)", r"(%s)( |\Z)" % "|".join(word for word in ITEMS if word != "define")
 # By the beginning of a line that is no command what is said of it. {c} is its first word.
@@ -62,7 +65,7 @@ STRANGE: Sequence[Tuple[str, str]] = (
     (r"watch( |\Z)", "work --watch reads each save by itself. If this one does not, quit and start it so."),
     (r"warnings( |\Z)", "lint lists what may not be meant in the script and the words."),
     *((r"%s( |\Z)" % verb, "{c} is not a command here. In a shell: {called} {c} %s." % files) for verb, files in IN_SHELL.items()),
-    (r"(%s)\s*>" % REPORT, "A report goes into a file by > FILE, with blanks around the >, as in: classes > my.classes."),
+    (r"(%s)\s*>" % REPORT, INTO_FILE),
     (COMMENT, "A comment begins with # at the beginning of the line. replace takes a whole script, up to a line with a single point."),
     (r"\s*[\[\](')]", "This is no command, but of a script, perhaps, and no block is open: routine NAME, among NAME K or grouping NAME opens one."),
     (r"define( |\Z)", "A definition begins with define NAME as, or define NAME and the terms of a grouping, in one line."),

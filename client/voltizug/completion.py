@@ -7,6 +7,9 @@ from . import rows
 from .bench import Bench
 from .commands import COMMANDS, NAMED, UNLISTED
 
+# Of more completions there is only how they all begin.
+MOST = 200
+
 
 class Completion:
     def __init__(self, bench: Bench):
@@ -22,7 +25,8 @@ class Completion:
         is_file = command in COMMANDS and COMMANDS[command].takes == "FILE"
         if not self.is_in_block and (is_file or line.endswith("> " + text)):
             return files(rest if is_file else text, text)
-        return sorted(name for name in self.candidates(command, has_more, rest) if name.startswith(text))
+        found = sorted(name for name in self.candidates(command, has_more, rest) if name.startswith(text))
+        return found if len(found) <= MOST else [os.path.commonprefix(found)]
 
     def candidates(self, command: str, has_more: str, rest: str) -> Iterable[str]:
         """Returns what can come: names of the script, a command, the number of an among, or one of its strings."""

@@ -42,7 +42,7 @@ class Desk:
         # The files and what they had; whether `work` has waited for one without its fault; the status with which it ends.
         self.paths = [path for path in (bench.script, bench.words) if path]
         self.files: Sequence[Optional[bytes]] = ()
-        self.has_waited, self.status = False, 1
+        self.has_waited, self.waits_for, self.status = False, "", 1
         bench.program.on_long, self.editor.on_interrupt, bench.on_restart = self.tell_long, bench.program.break_off, self.tell_restart
 
     def correction(self, path: str) -> str:
@@ -89,7 +89,8 @@ class Desk:
         verbs = ("has", "it was") if len(self.paths) == 1 else ("have", "they were")
         say("%s %s not changed since %s read." % (in_words(self.paths, "and"), *verbs) if is_same else "")
         ends = "quit or Ctrl-D ends%s." % (", for a start with --external" if any("use --external" in line for line in reply.said) else "")
-        say("%s %s" % (self.correction(name) if code else "Enter reads the files again.", ends))
+        self.waits_for = "%s %s" % (self.correction(name) if code else "Enter reads the files again.", ends)
+        say(self.waits_for)
         return True
 
     def show_figures(self, reply: Reply) -> None:
@@ -98,8 +99,7 @@ class Desk:
         say(*self.new_lints())
         refused = [row for row in bench.outcomes() if row.kind == "refused"] if figures["refused"] else []
         for row in refused[:1]:
-            first = "The first refused word is %s (%s)." % (words.in_quotes(row.word), row.stem)
-            say(('%s "why %s" shows where its run ends. %s' % (first, short(row.word), self.turning(row.word))).rstrip())
+            say("The first refused word is %s (%s). %s" % (words.in_quotes(row.word), row.stem, loops.ending(row.word, bench)))
         all_left = bench.kept.left()
         for left in [left for left in all_left if left.block]:
             self.editor.remember(*left.block)
@@ -136,7 +136,7 @@ class Desk:
             elif path in self.bench.gone:
                 self.screen.say("%s is there again." % short(path))
                 self.bench.gone.discard(path)
-        saved = self.bench.saved()
+        saved = self.bench.ready()
         if saved and self.bench.is_waiting:
             self.open()
         elif self.bench.script in saved:
@@ -145,7 +145,6 @@ class Desk:
             self.screen.say(self.note_words())
 
     def note_words(self) -> str:
-        """Returns the sentence on words that were saved since they were read; nothing if they were not."""
         path = self.bench.words or ""
         if path in self.bench.saved():
             self.bench.look(path)
@@ -183,7 +182,6 @@ class Desk:
         self.screen.say(why + " is started again with the current script.")
 
     def is_done(self, reply: Reply, line: str) -> bool:
-        """Whether a command was done; otherwise says why not."""
         if self.settle(reply) and reply.refusal():
             self.refuse(reply, [line])
         return reply.is_done
@@ -260,7 +258,7 @@ class Desk:
         own = self.own if edit.changes else []
         refused = [row for row in own if row.kind == "changed" and row.new_kind == "refused"]
         worst = next((row.word for row in refused if row.new in loops.NAMES), refused[0].word if refused else "")
-        tail = [*(self.new_lints() if is_reload or edit.command in (*BLOCKS, *OPEN_BLOCKS) else []), self.ending(worst) if refused else ""]
+        tail = [*(self.new_lints() if is_reload or edit.command in (*BLOCKS, *OPEN_BLOCKS) else []), loops.ending(worst, self.bench) if refused else ""]
         limit = counted(int(self.bench.program.now.limit), "step")
         note = words.NOTES.get(edit.note, "").format(script=short(self.bench.script), limit=limit)
         last = self.screen.broken([line for line in [*tail, note, self.note_words(), layout.families_line(edit.pairs), layout.summary(edit)] if line])
@@ -272,10 +270,3 @@ class Desk:
 
     def added(self, changes: Sequence[Any]) -> Dict[str, rows.Outcome]:
         return self.bench.by_word() if any(row.kind == "added" for row in changes) else {}
-
-    def ending(self, word: str) -> str:
-        """Returns the sentence on what goes round in a refused run, or else on where it ends."""
-        return self.turning(word) or loops.ending(word, self.bench.read("events " + word), self.bench)
-
-    def turning(self, word: str) -> str:
-        return loops.turning(word, self.bench.read("events " + word), self.bench)

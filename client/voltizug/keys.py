@@ -11,7 +11,7 @@ import select
 import signal
 import sys
 import termios
-from typing import Any, Callable, Iterator, List, Optional
+from typing import Any, Callable, Iterator, List, Optional, Tuple
 
 HISTORY, INTERRUPT, PAUSE = 2000, b"\x03", 0.1
 # How often files are looked at, and how soon again after a change (a file may still be being written); how often signals are if no file is.
@@ -51,11 +51,10 @@ def set_keys(settings: List[Any], is_needed: bool = False) -> None:
         try:
             return termios.tcsetattr(0, termios.TCSANOW, settings)
         except termios.error as why:
-            if why.args[0] == errno.EINTR:
-                continue
-            if is_needed:
+            if why.args[0] != errno.EINTR and is_needed:
                 raise Hangup from None
-            return None
+            if why.args[0] != errno.EINTR:
+                return None
 
 
 def with_interrupt(settings: List[Any], character: bytes) -> List[Any]:
@@ -210,7 +209,6 @@ class Editor:
 
     @contextlib.contextmanager
     def lent(self) -> Iterator[None]:
-        """Lends the terminal to another process, a pager."""
         set_keys(self.base)
         try:
             yield
@@ -225,12 +223,9 @@ class Editor:
         entry = "\n".join(lines)
         if not entry.strip():
             return
-        try:
+        # (readline knows no letters that the locale has not)
+        with contextlib.suppress(OSError, UnicodeError):
             readline.add_history(entry)
-        except UnicodeError:
-            # (readline takes the bytes of a line, and in a locale without these letters knows no text)
-            readline.add_history(entry.encode("utf-8", "surrogateescape").decode("ascii", "surrogateescape"))
-        with contextlib.suppress(OSError):
             readline.append_history_file(1, self.history)
 
     def open_history(self) -> None:
@@ -244,7 +239,8 @@ class Editor:
                 readline.write_history_file(self.history)
         readline.set_completer(self.complete)
         readline.set_completer_delims(" \t")
-        for binding in ("tab: complete", "set show-all-if-ambiguous on", "set bell-style none"):
+        # (it asks nothing before it shows completions, since that would take keys)
+        for binding in ("tab: complete", "set show-all-if-ambiguous on", "set bell-style none", "set completion-query-items 0", "set page-completions off"):
             readline.parse_and_bind(binding)
         # Ctrl-C is a key that ends the line with a character of its own. (The last keymap is in force.)
         keymaps, is_vi = {"vi-command": "A", "emacs": r"\C-e", "vi-insert": r"\eA"}, self.library and self.library.mode.value == 0
@@ -253,15 +249,26 @@ class Editor:
             readline.parse_and_bind(r'"\C-c": "%s\C-v\C-c\C-m"' % keymaps[keymap])
 
     def complete(self, text: str, state: int) -> Optional[str]:
-        """Returns the state-th completion. A tab among keys that come faster than one types is a tab of a text."""
+        """Returns the state-th completion. A tab among keys that come faster than one types is a tab of a text, but several tabs alone are as one."""
         if state == 0:
             # (a save that rings now would ask the program in the middle of a request)
             self.is_waiting = False
             try:
-                is_pasted = self.has_key()
+                tabs, is_pasted = self.take_tabs()
                 self.found = [text + "\t"] if is_pasted else self.complete_text(readline.get_line_buffer()[: readline.get_endidx()], text)
+                self.found = [text + "\t" * tabs] if self.found == [text + "\t"] else self.found
             except Exception:  # (readline would drop it without a word)
                 self.found = []
             finally:
                 self.is_waiting = True
         return self.found[state] if state < len(self.found) else None
+
+    def take_tabs(self) -> Tuple[int, bool]:
+        """Returns how many tabs came at once, and whether other keys came with them. These are given back."""
+        count, key = 1, b"\t"
+        while self.library and key == b"\t" and self.has_key():
+            key = os.read(0, 1)
+            count += key == b"\t"
+        if key not in (b"\t", b""):
+            self.library.rl_stuff_char(key[0])
+        return count, key != b"\t" or self.has_key()

@@ -125,7 +125,6 @@ def changes(found: Sequence[Any], outcomes: Dict[str, rows.Outcome], room: int =
 
 
 def figures(found: Sequence[Any], since: str = " since the mark") -> str:
-    """Returns what differs from the mark, in numbers."""
     kinds = Counter(row.kind for row in found)
     refused = sum(row.new_kind == "refused" for row in found if row.kind == "changed")
     parts = [counted(kinds["changed"], "word")] if kinds["changed"] else []
@@ -151,7 +150,6 @@ def summary(edit: Edit) -> str:
 
 
 def step_of(row: Any) -> str:
-    """Returns the command of an edit that `history` has."""
     return " ".join((row.command, *row.rest)) if row.rest else "the whole script"
 
 

@@ -2,14 +2,14 @@
 import re
 import unicodedata
 from collections import Counter
-from itertools import accumulate, dropwhile, takewhile
+from itertools import accumulate, takewhile
 from typing import Any, Dict, Iterable, List, Sequence, Set, Tuple
 
 from .bench import Bench
 from .conditions import BODY
 from .editor.names import Names
 from .layout import counted, in_words, named, short
-from .places import LARGEST, Places, line_and_column
+from .places import LARGEST, Places
 from .rows import Outcome, Token
 
 # (of few words most letters are missing)
@@ -33,255 +33,43 @@ CHANGING_TEXT = (*TAKING[:2], "<+", "insert", "attach")
 # They may fail. These do not, and what follows them may be a call.
 FAILING = {*MOVING, *"among substring tomark atmark atlimit false fail not non == != < <= > >=".split()}
 PASSING = ("(", "[", "backwards", "test", *SURE)
+# Where something is in the text, and what is said of it.
+Lint = Tuple[int, str]
 
 
-def lints(bench: Bench, has_all: bool = False) -> List[str]:
-    """Returns lines on the current text. All has letters beyond ASCII in literals, too; and of many words only that looks at each."""
-    if len(bench.program.now.text) > LARGEST:
-        return ["%s has more than {:,} bytes, and is not looked at".format(LARGEST) % named(bench.script)] if has_all else []
-    places, outcomes = bench.places(), bench.outcomes() if has_all or bench.size <= MANY else []
-    tokens = [token for token in places.tokens if token.kind != "comment"]
-    found = [*misused(tokens), *unset_slices(places), *bare_commands(places, tokens), *plain_braces(tokens), *late_takings(places), *half_done(places)]
-    found += [*idle_amongs(places), *unset_integers(places), *undefined(places)]
-    found += stopping_calls(places, bench, [start for start, _ in found]) if has_all or bench.size <= MANY else []
-    found += strange_strings(places, outcomes, tokens) if has_all or bench.size >= FEW else []
-    found += wrong_ways(places, bench, outcomes) if outcomes and places.entries else []
-    beyond = [token for token in tokens if has_all and token.kind == "literal" and not token.text.isascii()]
-    others = " (and {})".format(counted(len(beyond) - 1, "more literal")) if len(beyond) > 1 else ""
-    found += [(token.start, "%s has a letter beyond ASCII%s: other compilers ask for a stringdef" % (short(token.text), others)) for token in beyond[:1]]
-    shown = ["%s: %s" % (named(spot(places, start)), what) for start, what in sorted(found)]
-    more = len(shown) - MOST if not has_all else 0
-    shown = shown[: len(shown) - max(0, more)] + ['.. and {:,} more: "lint" shows all'.format(more)] * (more > 0)
-    return shown + strange_words(places, outcomes, tokens)
+class Script:
+    """A current text: its tokens without comments; by routine the body, what is in it, what it calls, and what calls it."""
+
+    def __init__(self, places: Places):
+        self.places, self.names = places, Names(places.tokens)
+        self.tokens = self.names.tokens
+        self.bodies = {name: places.part(name)[BODY:] for name in places.of_kind("routine")}
+        self.texts = {name: {token.text for token in body} for name, body in self.bodies.items()}
+        self.calls = {name: texts & self.bodies.keys() for name, texts in self.texts.items()}
+        self.callers = turned(self.calls)
+        # The routines that may fail, as far as that is plain: what they do after `do`, `try` or `repeat` does not count.
+        parts = {name: unsure(body) for name, body in self.bodies.items()}
+        calls = {name: {token.text for token in part} & parts.keys() for name, part in parts.items()}
+        self.doubtful = reached([name for name, part in parts.items() if any(map(self.is_failing, part))], turned(calls))
+
+    def is_failing(self, token: Token) -> bool:
+        return token.kind == "literal" or token.text in FAILING or self.places.kind(token.text) == "grouping"
+
+    def having(self, *words: str) -> List[str]:
+        return [name for name, texts in self.texts.items() if not texts.isdisjoint(words)]
+
+    def doing(self, *words: str) -> Set[str]:
+        """Returns the routines that have one of these words, or call such a routine."""
+        return reached(self.having(*words), self.callers)
 
 
-def spot(places: Places, start: int) -> str:
-    """Returns the place of a byte of the current text, in SCRIPT or in what was typed."""
-    home = next((name for name, row in places.definitions.items() if int(row.start) <= start < int(row.end)), "")
-    return places.at(home, start) if home else "%s:%d:%d" % (places.script, *line_and_column(places.text, start))
-
-
-def is_first(before: Sequence[str]) -> bool:
-    """Whether a routine does nothing that fails before a `setmark`, by the tokens before it."""
-    while before[-1:] in (["("], ["tolimit"]) or before[-2:-1] == ["setmark"]:
-        before = before[: -2 if before[-2:-1] == ["setmark"] else -1]
-    return before[-1:] == ["as"]
-
-
-def misused(tokens: Sequence[Token]) -> Iterable[Tuple[int, str]]:
-    """An empty slice, a limit for `[`, `$x = cursor`, a group of only a literal beside one with `<-`, an integer that may stay 0, `do X or`."""
-    texts, kinds = [token.text for token in tokens] + [""] * 7, [token.kind for token in tokens] + [""] * 7
-    values = {(texts[i + 1], texts[i + 2]) for i, text in enumerate(texts) if text == "$"}
-    for i, token in enumerate(tokens):
-        after = texts[i + 2 + (kinds[i + 2] == "name")]
-        if texts[i : i + 2] == ["[", "]"] and after in EMPTY:
-            yield token.start, "the slice is empty here: " + EMPTY[after]
-        elif texts[i : i + 3] == ["for", "[", "substring"]:
-            yield token.start, "the limit is for [ alone, and substring has none: for ( [substring] ) is meant, perhaps"
-        elif token.text == "$" and texts[i + 2 : i + 4] == ["=", "cursor"] and texts[i + 4] not in "+-*/":
-            yield token.start, "${0} = cursor sets {0} and never fails: == or <= is meant, perhaps".format(short(texts[i + 1]))
-        elif kinds[i] == kinds[i + 2] == "literal" and texts[i + 1 : i + 4 : 2] == ["(", ")"] and "<-" in (texts[i - 3], texts[i + 6]):
-            yield tokens[i + 2].start, "({0}) only tests whether {0} is there: (<- {0}) is meant, perhaps".format(short(texts[i + 2]))
-        elif token.text == "setmark" and not is_first(texts[:i]) and (texts[i + 1], "=") not in values and any((texts[i + 1], sign) in values for sign in ("<", "<=", ">", ">=")):
-            yield token.start, "{0} is 0 in the run of a word that does not come here: ${0} = limit before it is meant, perhaps".format(texts[i + 1])
-        elif token.text in SURE and texts[i - 1] not in NOT_SURE and texts[i + 1] and texts[end_of(tokens, i + 1)] == "or":
-            what = "{0} never fails, so what is after this or never runs: {0} ( .. or .. ) is meant, perhaps"
-            yield token.start, what.format(token.text)
-
-
-def bare_commands(places: Places, tokens: Sequence[Token]) -> Iterable[Tuple[int, str]]:
-    """A routine that changes something and may fail, or ( .. or such a routine ), without `do` and before something else in an external."""
-    declared = takewhile(lambda token: token.text != ")", dropwhile(lambda token: token.text != "externals", tokens))
-    doubtful = may_fail(places) & those_with(CHANGING, places)
-    for name in [token.text for token in declared if places.kind(token.text) == "routine"]:
-        part = places.part(name)[BODY:]
-        for i, end in bare(part):
-            if part[end].text in doubtful or i < end and part[end - 2].text == "or" and part[end - 1].text in doubtful:
-                yield part[i].start, "if {0} fails, nothing after it in {1} runs: do {0} is meant, perhaps".format("( .. )" if i < end else part[i].text, name)
-
-
-def bare(part: Sequence[Token]) -> Iterable[Tuple[int, int]]:
-    """The commands of a body, by their first and last tokens, after which the others run only if they do not fail."""
-    texts, before, i = [token.text for token in part] + [""], "as", 0
-    while i < len(part) and (i or texts[end_of(part, 0) if texts[0] == "(" else -1] != "or"):
-        end = i if texts[i] != "(" or before in ("as", "backwards") else end_of(part, i) - 1
-        if before not in GOVERNING and not before.isdigit() and texts[end + 1] not in ("or", "and", ")", ""):
-            yield i, end
-        before, i = texts[end], end + 1
-
-
-def may_fail(places: Places) -> Set[str]:
-    """Returns the routines that may fail, as far as that is plain: what they do after `do`, `try` or `repeat` does not count."""
-    parts = {name: unsure(places.part(name)[BODY:]) for name in places.of_kind("routine")}
-    tests = {*FAILING, *places.of_kind("grouping")}
-    first = [name for name, part in parts.items() if any(token.kind == "literal" or token.text in tests for token in part)]
-    return reached(first, callers({name: {token.text for token in part} for name, part in parts.items()}))
-
-
-def unsure(part: Sequence[Token]) -> List[Token]:
-    """Returns the tokens of a body without what never fails; none if it has an alternative that does not."""
-    found, texts, i = [], [token.text for token in part] + [""], 0  # type: List[Token], List[str], int
-    while i < len(part):
-        if texts[i] == "or" and texts[i + 1] in (*SURE, "true"):
-            return []
-        if texts[i] in SURE and texts[i - 1] not in NOT_SURE:
-            i = next((at for at in range(i + 1, len(part)) if texts[at] not in (*GOVERNING, "among") and not texts[at].isdigit()), len(part) - 1)
-            i = end_of(part, i) if texts[i] == "(" else i + 1
-        else:
-            found += [part[i]] if part[i].kind != "literal" or texts[i - 1] not in PUTTING else []
-            i += 1
-    return found
-
-
-def stopping_calls(places: Places, bench: Bench, known: Sequence[int]) -> Iterable[Tuple[int, str]]:
-    """A routine that does more than test, is called once, without `do`, and fails for most words, so that what comes after it does not run."""
-    parts = {name: places.part(name)[BODY:] for name in places.of_kind("routine")}
-    calls = Counter(token.text for part in parts.values() for token in part)
-    doing = may_fail(places) & those_with((*CHANGING, *MOVING), places)
-    doubtful = [name for name in doing if calls[name] == 1 and {"test", "not"}.isdisjoint(token.text for token in parts[name][:2])]
-    found = [(name, part, i) for name, part in parts.items() for i, end in bare(part) if part[end].text in doubtful and part[i].start not in known]
-    counts = {(row.name, getattr(row, "k", "")): int(row.count) for row in (bench.read("counts") if found else []) if row.kind in ("routine", "among")}
-    what = "{0} fails for {1:,} of {2:,} words, and then nothing after it in {3} runs: do {0} is meant, perhaps"
-    for name, part, i in found:
-        then = next((token for token in part[i + 1 :] if token.text not in PASSING), part[i])
-        among = next((key for key, row in places.amongs.items() if key[0] == name and int(row.start) >= then.start), (name, ""))
-        came = counts.get((part[i].text, ""), 0)
-        went = counts.get(among if then.text in ("substring", "among") else (then.text, ""), came)
-        if 2 * went < came:
-            yield part[i].start, what.format(part[i].text, came - went, came, name)
-
-
-def those_with(words: Sequence[str], places: Places) -> Set[str]:
-    """Returns the routines that have one of these words, or call such a routine."""
-    texts = {name: {token.text for token in places.part(name)[BODY:]} for name in places.of_kind("routine")}
-    return reached([name for name, part in texts.items() if not part.isdisjoint(words)], callers(texts))
-
-
-def callers(texts: Dict[str, Set[str]]) -> Dict[str, Set[str]]:
-    """Returns by routine those that call it, by what is in each."""
-    found: Dict[str, Set[str]] = {name: set() for name in texts}
-    for name, part in texts.items():
-        for other in part & found.keys():
+def turned(ways: Dict[str, Set[str]]) -> Dict[str, Set[str]]:
+    """Returns ways in the other direction."""
+    found: Dict[str, Set[str]] = {name: set() for name in ways}
+    for name, others in ways.items():
+        for other in others:
             found[other].add(name)
     return found
-
-
-def half_done(places: Places) -> Iterable[Tuple[int, str]]:
-    """The first command on the left of an `or`, or of a routine there, that changes the text, if what comes after it on the left may fail."""
-    bodies = {name: places.part(name)[BODY:] for name in places.of_kind("routine")}
-    doubtful = {*FAILING, *places.of_kind("grouping"), *may_fail(places)}
-    for side in (left_side(body, i, bodies) for body in bodies.values() for i, token in enumerate(body) if token.text == "or"):
-        depths = list(accumulate((token.text == "(") - (token.text == ")") for token in side))
-        at = next((i for i, token in enumerate(side) if token.text in CHANGING_TEXT and not depths[i]), len(side))
-        if any(token.kind == "literal" or token.text in doubtful for token in unsure(side[at:])):
-            yield side[at].start, "if what comes after this %s fails, the text stays changed: the or puts back the cursor alone" % side[at].text
-
-
-def left_side(body: Sequence[Token], at: int, bodies: Dict[str, List[Token]]) -> Sequence[Token]:
-    """Returns the commands in the bracket, or in the routine, that is directly before an `or`; none if it never fails."""
-    depths = accumulate((token.text == ")") - (token.text == "(") for token in reversed(body[:at]))
-    begin = at - 1 - next((i for i, depth in enumerate(depths) if not depth), at - 1)
-    if begin and body[begin - 1].text in (*SURE, "among"):
-        return []
-    called = bodies.get(body[begin].text, [])
-    return body[begin + 1 : at - 1] if body[begin].text == "(" else called[1:-1] if called and end_of(called, 0) == len(called) else called
-
-
-def late_takings(places: Places) -> Iterable[Tuple[int, str]]:
-    """A command that takes the slice directly after a routine that sets another one and takes that."""
-    parts = {name: places.part(name)[BODY:] for name in places.of_kind("routine")}
-    own = {name for name, part in parts.items() for texts in [{token.text for token in part}] if "[" in texts and not texts.isdisjoint(TAKING[:2])}
-    what = "{0} sets a slice of its own and takes it, so this {1} comes too late: {1} before {0} is meant, perhaps"
-    for part in parts.values():
-        for before, token in zip(part, part[1:]):
-            if before.text in own and token.text in TAKING[:2]:
-                yield token.start, what.format(before.text, token.text)
-
-
-def plain_braces(tokens: Sequence[Token]) -> Iterable[Tuple[int, str]]:
-    """The first literal with {..} above which there are no insert characters."""
-    above = takewhile(lambda token: token.text != "stringescapes", tokens)
-    for token in [token for token in above if token.kind == "literal" and re.search("{.*}", token.text)][:1]:
-        yield token.start, "%s has { and } as letters: no stringescapes {} is above it" % short(token.text)
-
-
-def unset_slices(places: Places) -> Iterable[Tuple[int, str]]:
-    """The first command of a routine that takes the slice, if there is no [ or no ] in the routine, in what it calls, and in what calls it."""
-    parts = {name: places.part(name)[2:] for name in places.of_kind("routine")}
-    calls = {name: {token.text for token in part}.intersection(parts) for name, part in parts.items()}
-    having = {sign: [name for name, part in parts.items() if any(token.text == sign for token in part)] for sign in "[]"}
-    there = {sign: reached(having[sign], calls) | reached(having[sign], callers(calls)) for sign in "[]"}
-    for name, part in parts.items():
-        lacking = [sign for sign in "[]" if name not in there[sign]]
-        for token in [token for token in part if token.text in TAKING and lacking][:1]:
-            what = "{}, what it calls and what calls it have no {}: this {} takes an earlier slice, or an empty one"
-            yield token.start, what.format(name, in_words(lacking, "and no"), token.text)
-
-
-def idle_amongs(places: Places) -> Iterable[Tuple[int, str]]:
-    """An among without a command, if [substring] is before it, nothing after it or in what calls its routine takes the slice, and no call is a test."""
-    parts = {name: places.part(name)[BODY:] for name in places.of_kind("routine")}
-    texts = {name: {token.text for token in part} for name, part in parts.items()}
-    takes, ways = {*TAKING, *(name for name in those_with(TAKING, places) if "[" not in texts[name])}, callers(texts)
-    taking, tested = {name for name in parts if not texts[name].isdisjoint(takes)}, set()  # type: Set[str], Set[str]
-    for part in parts.values():
-        tested |= {token.text for i, token in enumerate(part) if token.text in parts and is_test(part, i)}
-    what = "no string here has a command, and nothing takes the slice of [substring]: (delete) after the strings is meant, perhaps"
-    for name, part in parts.items():
-        last = 0
-        for i, token in enumerate(part):
-            last = i if token.text == "substring" else last
-            if token.text == "among":
-                has_slice, end, last = last > 0 and part[last - 1].text + part[last + 1].text == "[]", end_of(part, i + 1), 0
-                is_idle = has_slice and name not in tested and takes.isdisjoint(other.text for other in part[end:])
-                if is_idle and all(other.text != "(" for other in part[i + 2 : end]) and taking.isdisjoint(reached([name], ways) - {name}):
-                    yield token.start, what
-
-
-def is_test(part: Sequence[Token], at: int) -> bool:
-    """Whether it may count what a call signals: no `do` is before it or before a bracket that it ends, and more comes after it."""
-    begin = end = at
-    while not begin or part[begin - 1].text not in SURE:
-        if begin and (part[begin - 1].kind == "literal" or part[begin - 1].text in TESTING):
-            return True
-        if end + 1 == len(part):
-            return False
-        if part[end + 1].text != ")":
-            return True
-        end += 1
-        begin = next(i for i in range(end, -1, -1) if part[i].text == "(" and end_of(part, i) == end + 1)
-    return False
-
-
-def unset_integers(places: Places) -> Iterable[Tuple[int, str]]:
-    """The first command of a run that has an integer which no command of a run sets."""
-    parts = {name: places.part(name)[BODY:] for name in places.of_kind("routine")}
-    kinds, setters = Names(places.tokens).kinds, {}  # type: Dict[str, str], Dict[str, Dict[str, bool]]
-    calls = {name: {token.text for token in part}.intersection(parts) for name, part in parts.items()}
-    running = reached([name for name in parts if kinds.get(name) == "external"], calls)
-    for name, part in parts.items():
-        for integer in set_in(part):
-            setters.setdefault(integer, {})[name] = name in running
-    first = {token.text: token for name in reversed(list(parts)) if name in running for token in reversed(parts[name])}
-    for integer in [name for name, kind in kinds.items() if kind == "integer" and name in first]:
-        others = setters.get(integer, {})
-        if not any(others.values()):
-            why = "no run comes to %s, which sets it" % in_words(list(others), "or") if others else "no command sets it"
-            yield first[integer].start, "%s is 0 in each run: %s" % (short(integer), why)
-
-
-def set_in(part: Sequence[Token]) -> Iterable[str]:
-    """The integers that commands of a body set."""
-    for before, token, after in zip(part, part[1:], [*part[2:], *part[:1]]):
-        if before.text == "setmark" or before.text == "$" and after.text in ("=", "+=", "-=", "*=", "/="):
-            yield token.text
-
-
-def undefined(places: Places) -> Iterable[Tuple[int, str]]:
-    """The declarations of routines and groupings that have no definition."""
-    names = Names(places.tokens)
-    for name in [name for name, kind in names.kinds.items() if kind in ("external", "routine", "grouping") and name not in names.items]:
-        yield names.declared[name].start, "%s is declared, but not defined" % short(name)
 
 
 def reached(names: Sequence[str], ways: Dict[str, Set[str]]) -> Set[str]:
@@ -304,12 +92,191 @@ def end_of(tokens: Sequence[Token], at: int) -> int:
     return len(tokens)
 
 
-def strange_strings(places: Places, outcomes: Sequence[Outcome], tokens: Sequence[Token]) -> Iterable[Tuple[int, str]]:
+def misused(script: Script) -> Iterable[Lint]:
+    """An empty slice, a limit for `[`, `$x = cursor`, a group of only a literal beside one with `<-`, an integer that may stay 0, `do X or`."""
+    tokens = script.tokens
+    texts, kinds = [token.text for token in tokens] + [""] * 7, [token.kind for token in tokens] + [""] * 7
+    values = {(texts[i + 1], texts[i + 2]) for i, text in enumerate(texts) if text == "$"}
+    for i, token in enumerate(tokens):
+        after, name = texts[i + 2 + (kinds[i + 2] == "name")], short(texts[i + 1])
+        if texts[i : i + 2] == ["[", "]"] and after in EMPTY:
+            yield token.start, "the slice is empty here: " + EMPTY[after]
+        elif texts[i : i + 3] == ["for", "[", "substring"]:
+            yield token.start, "the limit is for [ alone, and substring has none: for ( [substring] ) is meant, perhaps"
+        elif token.text == "$" and texts[i + 2 : i + 4] == ["=", "cursor"] and texts[i + 4] not in "+-*/":
+            yield token.start, "${0} = cursor sets {0} and never fails: == or <= is meant, perhaps".format(name)
+        elif kinds[i] == kinds[i + 2] == "literal" and texts[i + 1 : i + 4 : 2] == ["(", ")"] and "<-" in (texts[i - 3], texts[i + 6]):
+            yield tokens[i + 2].start, "({0}) only tests whether {0} is there: (<- {0}) is meant, perhaps".format(short(texts[i + 2]))
+        elif token.text == "setmark" and not values.isdisjoint((texts[i + 1], sign) for sign in ("<", "<=", ">", ">=")):
+            if (texts[i + 1], "=") not in values and not is_first(texts[:i]):
+                yield token.start, "{0} is 0 in the run of a word that does not come here: ${0} = limit before it is meant, perhaps".format(name)
+        elif token.text in SURE and texts[i - 1] not in NOT_SURE and texts[i + 1] and texts[end_of(tokens, i + 1)] == "or":
+            yield token.start, "{0} never fails, so what is after this or never runs: {0} ( .. or .. ) is meant, perhaps".format(token.text)
+
+
+def is_first(before: Sequence[str]) -> bool:
+    """Whether a routine does nothing that fails before a `setmark`, by the tokens before it."""
+    while before[-1:] in (["("], ["tolimit"]) or before[-2:-1] == ["setmark"]:
+        before = before[: -2 if before[-2:-1] == ["setmark"] else -1]
+    return before[-1:] == ["as"]
+
+
+def plain_braces(script: Script) -> Iterable[Lint]:
+    """The first literal with {..} above which there are no insert characters."""
+    above = takewhile(lambda token: token.text != "stringescapes", script.tokens)
+    for token in [token for token in above if token.kind == "literal" and re.search("{.*}", token.text)][:1]:
+        yield token.start, "%s has { and } as letters: no stringescapes {} is above it" % short(token.text)
+
+
+def undefined(script: Script) -> Iterable[Lint]:
+    """The declarations of routines and groupings that have no definition."""
+    names = script.names
+    for name in [name for name, kind in names.kinds.items() if kind in ("external", "routine", "grouping") and name not in names.items]:
+        yield names.declared[name].start, "%s is declared, but not defined" % short(name)
+
+
+def unsure(body: Sequence[Token]) -> List[Token]:
+    """Returns the tokens of a body without what never fails; none if it has an alternative that does not."""
+    found, texts, i = [], [token.text for token in body] + [""], 0  # type: List[Token], List[str], int
+    while i < len(body):
+        if texts[i] == "or" and texts[i + 1] in (*SURE, "true"):
+            return []
+        if texts[i] in SURE and texts[i - 1] not in NOT_SURE:
+            i = next((at for at in range(i + 1, len(body)) if texts[at] not in (*GOVERNING, "among") and not texts[at].isdigit()), len(body) - 1)
+            i = end_of(body, i) if texts[i] == "(" else i + 1
+        else:
+            found += [body[i]] if body[i].kind != "literal" or texts[i - 1] not in PUTTING else []
+            i += 1
+    return found
+
+
+def bare(body: Sequence[Token]) -> Iterable[Tuple[int, int]]:
+    """The commands of a body, by their first and last tokens, after which the others run only if they do not fail."""
+    texts, before, i = [token.text for token in body] + [""], "as", 0
+    while i < len(body) and (i or texts[end_of(body, 0) if texts[0] == "(" else -1] != "or"):
+        end = i if texts[i] != "(" or before in ("as", "backwards") else end_of(body, i) - 1
+        if before not in GOVERNING and not before.isdigit() and texts[end + 1] not in ("or", "and", ")", ""):
+            yield i, end
+        before, i = texts[end], end + 1
+
+
+def bare_commands(script: Script) -> Iterable[Lint]:
+    """A routine that changes something and may fail, or ( .. or such a routine ), without `do` and before something else in an external."""
+    doubtful = script.doubtful & script.doing(*CHANGING)
+    for name, body in script.bodies.items():
+        for i, end in bare(body) if script.names.kinds.get(name) == "external" else ():
+            if body[end].text in doubtful or i < end and body[end - 2].text == "or" and body[end - 1].text in doubtful:
+                what = "( .. )" if i < end else body[i].text
+                yield body[i].start, "if {0} fails, nothing after it in {1} runs: do {0} is meant, perhaps".format(what, name)
+
+
+def stopping_calls(script: Script, bench: Bench, known: Sequence[int]) -> Iterable[Lint]:
+    """A routine that does more than test, is called once, without `do`, and fails for most words, so that what comes after it does not run."""
+    places, bodies = script.places, script.bodies
+    calls = Counter(token.text for body in bodies.values() for token in body)
+    doing = [name for name in script.doubtful & script.doing(*CHANGING, *MOVING) if calls[name] == 1]
+    doubtful = [name for name in doing if {"test", "not"}.isdisjoint(token.text for token in bodies[name][:2])]
+    found = [(name, body, i) for name, body in bodies.items() for i, end in bare(body) if body[end].text in doubtful and body[i].start not in known]
+    counts = {(row.name, getattr(row, "k", "")): int(row.count) for row in (bench.read("counts") if found else []) if row.kind in ("routine", "among")}
+    what = "{0} fails for {1:,} of {2:,} words, and then nothing after it in {3} runs: do {0} is meant, perhaps"
+    for name, body, i in found:
+        then = next((token for token in body[i + 1 :] if token.text not in PASSING), body[i])
+        among = next((key for key, row in places.amongs.items() if key[0] == name and int(row.start) >= then.start), (name, ""))
+        came = counts.get((body[i].text, ""), 0)
+        went = counts.get(among if then.text in ("substring", "among") else (then.text, ""), came)
+        if 2 * went < came:
+            yield body[i].start, what.format(body[i].text, came - went, came, name)
+
+
+def half_done(script: Script) -> Iterable[Lint]:
+    """The first command on the left of an `or`, or of a routine there, that changes the text, if what comes after it on the left may fail."""
+    bodies = script.bodies
+    for side in (left_side(body, i, bodies) for body in bodies.values() for i, token in enumerate(body) if token.text == "or"):
+        depths = accumulate((token.text == "(") - (token.text == ")") for token in side)
+        at = next((i for i, depth in enumerate(depths) if side[i].text in CHANGING_TEXT and not depth), len(side))
+        if any(script.is_failing(token) or token.text in script.doubtful for token in unsure(side[at:])):
+            yield side[at].start, "if what comes after this %s fails, the text stays changed: the or puts back the cursor alone" % side[at].text
+
+
+def left_side(body: Sequence[Token], at: int, bodies: Dict[str, List[Token]]) -> Sequence[Token]:
+    """Returns the commands in the bracket, or in the routine, that is directly before an `or`; none if it never fails."""
+    depths = accumulate((token.text == ")") - (token.text == "(") for token in reversed(body[:at]))
+    begin = at - 1 - next((i for i, depth in enumerate(depths) if not depth), at - 1)
+    if begin and body[begin - 1].text in (*SURE, "among"):
+        return []
+    called = bodies.get(body[begin].text, [])
+    return body[begin + 1 : at - 1] if body[begin].text == "(" else called[1:-1] if called and end_of(called, 0) == len(called) else called
+
+
+def late_takings(script: Script) -> Iterable[Lint]:
+    """A command that takes the slice directly after a routine that sets another one and takes that."""
+    own = {*script.having("[")}.intersection(script.having(*TAKING[:2]))
+    what = "{0} sets a slice of its own and takes it, so this {1} comes too late: {1} before {0} is meant, perhaps"
+    for body in script.bodies.values():
+        for before, token in zip(body, body[1:]):
+            if before.text in own and token.text in TAKING[:2]:
+                yield token.start, what.format(before.text, token.text)
+
+
+def unset_slices(script: Script) -> Iterable[Lint]:
+    """The first command of a routine that takes the slice, if there is no [ or no ] in the routine, in what it calls, and in what calls it."""
+    there = {sign: reached(script.having(sign), script.calls) | script.doing(sign) for sign in "[]"}
+    what = "{}, what it calls and what calls it have no {}: this {} takes an earlier slice, or an empty one"
+    for name, body in script.bodies.items():
+        lacking = [sign for sign in "[]" if name not in there[sign]]
+        for token in [token for token in body if token.text in TAKING and lacking][:1]:
+            yield token.start, what.format(name, in_words(lacking, "and no"), token.text)
+
+
+def idle_amongs(script: Script) -> Iterable[Lint]:
+    """An among without a command, if [substring] is before it, nothing after it or in what calls its routine takes the slice, and no call is a test."""
+    takes = {*TAKING, *(name for name in script.doing(*TAKING) if "[" not in script.texts[name])}
+    taking = set(script.having(*takes))
+    tested = {token.text for body in script.bodies.values() for i, token in enumerate(body) if token.text in script.bodies and is_test(body, i)}
+    what = "no string here has a command, and nothing takes the slice of [substring]: (delete) after the strings is meant, perhaps"
+    for name, body in script.bodies.items():
+        last, is_free = 0, name not in tested and taking.isdisjoint(reached([name], script.callers) - {name})
+        for i, token in enumerate(body):
+            last = i if token.text == "substring" else last
+            if token.text == "among":
+                has_slice, end, last = last > 0 and body[last - 1].text + body[last + 1].text == "[]", end_of(body, i + 1), 0
+                inside, after = ({other.text for other in part} for part in (body[i + 2 : end], body[end:]))
+                if has_slice and is_free and "(" not in inside and takes.isdisjoint(after):
+                    yield token.start, what
+
+
+def is_test(body: Sequence[Token], at: int) -> bool:
+    """Whether it may count what a call signals: no `do` is before it or before a bracket that it ends, and more comes after it."""
+    begin = end = at
+    while not begin or body[begin - 1].text not in SURE:
+        if begin and (body[begin - 1].kind == "literal" or body[begin - 1].text in TESTING):
+            return True
+        if end + 1 == len(body) or body[end + 1].text != ")":
+            return end + 1 < len(body)
+        end += 1
+        begin = next(i for i in range(end, -1, -1) if body[i].text == "(" and end_of(body, i) == end + 1)
+    return False
+
+
+def unset_integers(script: Script) -> Iterable[Lint]:
+    """The first command of a run that has an integer which no command of a run sets."""
+    kinds, setters = script.names.kinds, {}  # type: Dict[str, str], Dict[str, List[str]]
+    running = reached([name for name in script.bodies if kinds.get(name) == "external"], script.calls)
+    for name, body in script.bodies.items():
+        for before, token, after in zip(body, body[1:], [*body[2:], *body[:1]]):
+            if before.text == "setmark" or before.text == "$" and after.text in ("=", "+=", "-=", "*=", "/="):
+                setters.setdefault(token.text, []).append(name)
+    first = {token.text: token for name in reversed(list(script.bodies)) if name in running for token in reversed(script.bodies[name])}
+    for integer in [name for name, kind in kinds.items() if kind == "integer" and name in first and running.isdisjoint(setters.get(name, []))]:
+        others = list(dict.fromkeys(setters.get(integer, [])))
+        why = "no run comes to %s, which sets it" % in_words(others, "or") if others else "no command sets it"
+        yield first[integer].start, "%s is 0 in each run: %s" % (short(integer), why)
+
+
+def strange_strings(script: Script, outcomes: Sequence[Outcome]) -> Iterable[Lint]:
     """The strings of amongs with a letter that no word has and no command puts in."""
-    if not outcomes:
-        return
-    there: Set[str] = set().union(*put_in(tokens), *(row.word + row.stem * (row.kind == "stem") for row in outcomes))
-    for (_, _, string), row in places.entries.items():
+    there = set().union(*put_in(script.tokens), *(row.word + row.stem * (row.kind == "stem") for row in outcomes))  # type: Set[str]
+    for (_, _, string), row in script.places.entries.items() if outcomes else ():
         strange = list(map(letter, sorted(set(string) - there)))
         if strange:
             yield int(row.start), "'%s' has %s, which no word has and no command puts in" % (short(string), in_words(strange, "and", 6))
@@ -348,15 +315,14 @@ def inserted(text: str, signs: str, macros: Dict[str, str]) -> str:
     return re.sub("%s(.*?)%s" % (re.escape(signs[0]), re.escape(signs[1])), value, text, flags=re.S) if signs else text
 
 
-def wrong_ways(places: Places, bench: Bench, outcomes: Sequence[Outcome]) -> Iterable[Tuple[int, str]]:
+def wrong_ways(script: Script, bench: Bench, outcomes: Sequence[Outcome]) -> Iterable[Lint]:
     """Amongs of which most strings are taken in no run, and are only at that end of words from which the among does not go."""
+    places, items, strings = script.places, script.names.items, {}  # type: Places, Any, Dict[Tuple[str, str], List[str]]
     untaken = {(row.name, row.k, row.string) for row in bench.read("counts") if row.kind == "entry" and row.count == "0"}
-    strings: Dict[Tuple[str, str], List[str]] = {}
     for name, k, string in places.entries:
         strings.setdefault((name, k), []).append(string)
     sizes = {len(string) for _, _, string in places.entries} - {0}
-    begins, ends = ({way(row.word, size) for row in outcomes for size in sizes} for way in (lambda word, size: word[:size], lambda word, size: word[-size:]))
-    items = Names(places.tokens).items
+    begins, ends = ({row.word[:size] for row in outcomes for size in sizes}, {row.word[-size:] for row in outcomes for size in sizes})
     what = {
         False: "{0} runs forwards, and {1} of these strings, as '{2}', only end words: define {0} in backwardmode, and backwards {0}, is meant, perhaps",
         True: "{0} runs backwards, and {1} of these strings, as '{2}', only begin words: a define outside of backwardmode is meant, perhaps",
@@ -369,10 +335,10 @@ def wrong_ways(places: Places, bench: Bench, outcomes: Sequence[Outcome]) -> Ite
             yield start, what[is_back].format(name, len(odd), short(odd[0]))
 
 
-def strange_words(places: Places, outcomes: Sequence[Outcome], tokens: Sequence[Token]) -> List[str]:
+def strange_words(script: Script, outcomes: Sequence[Outcome]) -> List[str]:
     """Words with capitals or signs that no string has, these if they are many, and words with the empty stem."""
-    strings = [string for _, _, string in places.entries]
-    signs = set("".join(re.sub("{[^}]*}", "", token.text) for token in tokens if token.kind == "literal"))
+    strings = [string for _, _, string in script.places.entries]
+    signs = set("".join(re.sub("{[^}]*}", "", token.text) for token in script.tokens if token.kind == "literal"))
     large = [row.word for row in outcomes if row.word != row.word.lower()] if strings and all(string == string.lower() for string in strings) else []
     signed = [row.word for row in outcomes if not row.word.isalpha() and any(unicodedata.category(c)[0] in "PS" for c in set(row.word) - signs)]
     empty = [row.word for row in outcomes if (row.kind, row.stem) == ("stem", "")]
@@ -381,3 +347,23 @@ def strange_words(places: Places, outcomes: Sequence[Outcome], tokens: Sequence[
         (large, "capitals", ", and no string of an among has one"),
         (signed if 2 * len(signed) > len(outcomes) else [], "a sign that is no letter", ", and no literal has it"), (empty, "the empty stem", ""),
     ) if found]
+
+
+def lints(bench: Bench, has_all: bool = False) -> List[str]:
+    """Returns lines on the current text. All has letters beyond ASCII in literals, too; and of many words only that looks at each."""
+    if len(bench.program.now.text) > LARGEST:
+        return ["%s has more than {:,} bytes, and is not looked at".format(LARGEST) % named(bench.script)] if has_all else []
+    script, sees_words = Script(bench.places()), has_all or bench.size <= MANY
+    outcomes = bench.outcomes() if sees_words else []
+    looks = (misused, unset_slices, bare_commands, plain_braces, late_takings, half_done, idle_amongs, unset_integers, undefined)
+    found = [lint for look in looks for lint in look(script)]
+    found += stopping_calls(script, bench, [start for start, _ in found]) if sees_words else []
+    found += strange_strings(script, outcomes) if has_all or bench.size >= FEW else []
+    found += wrong_ways(script, bench, outcomes) if outcomes and script.places.entries else []
+    beyond = [token for token in script.tokens if has_all and token.kind == "literal" and not token.text.isascii()]
+    others = " (and {})".format(counted(len(beyond) - 1, "more literal")) if len(beyond) > 1 else ""
+    found += [(token.start, "%s has a letter beyond ASCII%s: other compilers ask for a stringdef" % (short(token.text), others)) for token in beyond[:1]]
+    shown = ["%s: %s" % (named(script.places.spot(start)), what) for start, what in sorted(found)]
+    more = 0 if has_all else max(0, len(shown) - MOST)
+    shown[len(shown) - more :] = ['.. and {:,} more: "lint" shows all'.format(more)] * (more > 0)
+    return shown + strange_words(script, outcomes)

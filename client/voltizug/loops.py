@@ -21,15 +21,20 @@ class Turn(NamedTuple):
     count: int
 
 
+def running(events: Sequence[Any]) -> List[str]:
+    """Returns the routines that are still running at the end, the outermost first."""
+    calls: List[str] = []
+    for row in events:
+        calls = [*calls, row.name] if row.kind == "call" else calls[:-1] if row.kind == "return" else calls
+    return calls
+
+
 def turn_of(events: Sequence[Any]) -> Optional[Turn]:
     """Returns what goes round in a refused run; nothing if the run is not refused so."""
     if not events or events[-1][:2] not in (("refused", "Steps"), ("refused", "Depth")):
         return None
     more = sum(int(row.count) for row in events if row.kind == "more")
-    rows, calls = [row for row in events[:-1] if row.kind != "more"], []  # type: List[Any], List[str]
-    # (those that are still running, the outermost first)
-    for row in rows:
-        calls = [*calls, row.name] if row.kind == "call" else calls[:-1] if row.kind == "return" else calls
+    rows, calls = [row for row in events[:-1] if row.kind != "more"], running(events)
     if events[-1].name == "Depth":
         length, count = period(calls, 2)
         return Turn(tuple(dict.fromkeys(calls[-(length or 1) :])), True, (), count) if calls else None
@@ -74,19 +79,15 @@ def turning(word: str, events: Sequence[Any], bench: Bench) -> str:
         may_be = " It may be %s." % in_words(spots, "or") if spots else ""
         limit = int(bench.program.now.limit)
         return "The run of {} ends in {}, which goes round, or it needs more than {:,} steps.{}".format(word, name, limit, may_be)
-    does = ": it %s again and again, %s" % (in_words(turn.does, "and", 3), "{:,} times and more".format(turn.count)) if turn.does else ""
-    if len(spots) == 1:
-        return "In the run of %s %s%s in %s goes round%s." % (word, spots[0], "," * bool(places.note), name, does)
-    return "In the run of %s %s goes round%s.%s" % (word, name, does, " It is %s." % in_words(spots, "or") if spots else "")
+    does = ": it {} again and again, {:,} times and more".format(in_words(turn.does, "and", 3), turn.count) if turn.does else ""
+    what = "%s%s in " % (in_words(spots, "or"), "," * bool(places.note)) if spots else ""
+    return "In the run of %s %s%s goes round%s." % (word, what, name, does)
 
 
-def ending(word: str, events: Sequence[Any], bench: Bench) -> str:
-    """Returns the sentence on where the run of a word is refused, and why; nothing if that is not known."""
-    calls = []  # type: List[str]
-    for row in events:
-        calls += [row.name] if row.kind == "call" else []
-        del calls[len(calls) - (row.kind == "return") :]
-    why = REFUSALS.get(events[-1][1], "").partition(". ")[0] if events and events[-1].kind == "refused" else ""
-    at = bench.places().of(calls[-1]) if calls else ""
-    where = "%s%s" % (calls[-1], " (%s)" % at if at else "") if calls else "its beginning"
-    return 'The run of %s ends in %s: %s. "why %s" says more.' % (in_quotes(word), where, why, short(word)) if why else ""
+def ending(word: str, bench: Bench) -> str:
+    """Returns the sentence on what goes round in a run that is refused, or else on where it ends, and why."""
+    events = bench.read("events " + word)
+    name, why = "".join(running(events)[-1:]), REFUSALS.get(events[-1][1], "").partition(". ")[0] if events else ""
+    at = bench.places().of(name)
+    ends = "%s%s%s" % (name or "its beginning", " (%s)" % at if at else "", ": " + why if why else "")
+    return turning(word, events, bench) or 'The run of %s ends in %s. "why %s" says more.' % (in_quotes(word), ends, short(word))

@@ -37,7 +37,6 @@ def usual_program() -> str:
 
 
 def options_of(given: Sequence[str]) -> Options:
-    """Returns the options of a command line, or raises Misuse."""
     try:
         pairs, files = getopt.gnu_getopt(list(given), "", [*(name[2:] for name in FLAGS), *(name[2:] + "=" for name in VALUES)])
     except getopt.GetoptError as why:

@@ -45,6 +45,11 @@ class Places:
             return "%s:%d:%d%s" % (self.script, *line_and_column(self.file_text or b"", first + start - int(home.start)), self.note)
         return "not in %s: line %d of %s" % (self.script, self.text.count(b"\n", int(home.start), start) + 1, name)
 
+    def spot(self, start: int) -> str:
+        """Returns the place of a byte of the current text, in SCRIPT or in what was typed."""
+        home = next((name for name, row in self.definitions.items() if int(row.start) <= start < int(row.end)), "")
+        return self.at(home, start) if home else "%s:%d:%d" % (self.script, *line_and_column(self.text, start))
+
     def in_file(self, name: str) -> Optional[int]:
         """Returns where SCRIPT has a definition with the same bytes, once; otherwise nothing."""
         start, end, file_text = int(self.definitions[name].start), int(self.definitions[name].end), self.file_text or b""

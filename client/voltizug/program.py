@@ -27,7 +27,6 @@ class Reply(NamedTuple):
     said: List[str]
 
     def refusal(self) -> Optional[Tuple[int, str]]:
-        """Returns the number and the name if the request was refused."""
         found = re.fullmatch(r"no ([0-9]+) (\w+)", self.lines[0]) if len(self.lines) == 1 else None
         return (int(found[1]), found[2]) if found else None
 

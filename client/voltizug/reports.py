@@ -88,7 +88,6 @@ def placed(found: Sequence[Tuple[str, str]]) -> List[str]:
 
 
 def in_columns(found: Sequence[Line]) -> List[str]:
-    """Returns lines that begin with names, and have places."""
     column = max((len(name) for name, _, _ in found), default=0)
     return placed([("%-*s  %s" % (column, name, what), place) for name, what, place in found])
 

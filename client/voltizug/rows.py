@@ -77,7 +77,6 @@ def between(before: List[str], after: List[str]) -> List[Any]:
 
 
 def names_of(row: Any) -> List[str]:
-    """Returns the words and stems of a row of `changes`."""
     fields = (row.word, row.old, row.new) if row.kind == "changed" else row[1:]
     return [name for field in fields for name in ([field] if isinstance(field, str) else field)]
 

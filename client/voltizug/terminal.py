@@ -16,15 +16,15 @@ from .desk import Desk
 from .keys import Broken, Dropped, Hangup
 from .layout import counted, in_words, short
 from .places import BOM, readable
-from .program import DONE, LONGEST, encoded
+from .program import DONE, encoded
 
 DEFINITION = re.compile(r"\s*define\s+([A-Za-z][A-Za-z0-9_]*)\s+(as(?=\s|$))?")
 TO_FILE = re.compile(r"(.*\S)\s+>\s*(\S+|[^|>\s][^|>]*\S)\s*\Z")
 USAGE = "usage: %s work [--watch] [--rows | --text] [--color WHEN] [--no-pager] [--external NAME] [--from TEXT] [--stop FILE] SCRIPT [WORDS]" % options.CALLED
 # Replies that are not broken, since an author wrote them.
 TEXTS = ("script", "show", "echo", *ROWS)
-# By report how many of its last lines are figures.
-FIGURES = {"changes": 1, "last": 1, "families": 2}
+# By report how many of its last lines are figures; what is asked for what the program does not know.
+FIGURES, ASKED = {"changes": 1, "last": 1, "families": 2}, {"largest": "largest 10", "lint": "echo", "last": "echo"}
 
 
 def tidy(line: str) -> str:
@@ -60,22 +60,20 @@ class Terminal(Desk):
         if self.bench.is_waiting and line in ("", "reload"):
             self.open()
         elif self.bench.is_waiting and command != "help":
-            then = " and save it" if self.options.is_watching else ", save it, and press Enter"
-            self.screen.say("A file has a fault, so no command runs yet. Correct it there%s. quit or Ctrl-D ends." % then)
-        elif len(encoded(line)) > LONGEST:
-            self.screen.say(words.SENTENCES[72])
+            self.screen.say("No command runs yet. " + self.waits_for)
         elif wrong := words.strange(line, NO_FILE):
             self.screen.say(wrong)
         elif line == "families" and self.bench.families and not self.editor.pending:
-            self.ask("families " + self.bench.families)
+            self.ask(line)
         elif line in ("", "reload", "undo", "redo") or command in ("limit", "replace") and argument:
-            if line or self.is_sure("Enter", self.unchanged()):
+            # (Enter is for what was saved)
+            drops = not line and self.bench.script not in self.bench.saved() and self.bench.is_unsaved(self.bench.program.now.text)
+            if self.is_sure(line or "Enter", "%s has not changed: Enter again drops what you typed." % short(self.bench.script) if drops else ""):
                 self.edit([line or "reload"])
         elif command in BLOCKS or line in OPEN_BLOCKS:
-            self.read_block([line])
+            self.read_block(line)
         elif definition := DEFINITION.match(line):
-            name, is_routine = definition.groups()
-            self.read_block(["%s %s" % ("routine" if is_routine else "grouping", name), line])
+            self.read_block("%s %s" % ("routine" if definition[2] else "grouping", definition[1]), line)
         elif command in ("save", "approve"):
             self.write(command, argument.strip())
         elif not hasattr(self, "do_" + command):
@@ -87,39 +85,29 @@ class Terminal(Desk):
         return True
 
     def ask(self, line: str) -> None:
-        found = TO_FILE.match(line) if line.partition(" ")[0] in REPORTING else None
-        typed, (line, path) = line, found.groups() if found else (line, "")
+        """Has a command done, and shows what it replies, or writes that to a file."""
+        typed, name, path = line, line.partition(" ")[0], ""
+        if name in REPORTING and (found := TO_FILE.match(line)):
+            line, path = found.groups()
         if line == "families" and not self.bench.families:
             self.screen.say("families needs a file: families FILE > %s." % short(path))
             return
         line = "families " + self.bench.families if line == "families" else line
-        command, _, argument = line.partition(" ")
-        is_alone = argument in (">", ">>", "|") and command in COMMANDS and not COMMANDS[command].takes
-        is_piped = " | " in " " + argument or " >> " in " " + argument or argument.endswith(" >") or is_alone
-        if is_piped and command in REPORTING and command != "uses":
-            self.screen.say("A report goes into a file by > FILE, as in: classes > my.classes. There are no pipes here.")
-            return
         # (a string may be typed as it is shown)
         line = re.sub(r"\A(uses \S+ [0-9]+) '(.*)'\Z", r"\1 \2", line)
-        others = {"largest": "largest 10", "lint": "echo", "last": "echo"}
-        asked = {"changes": "changes", "tests": "events " + argument}.get(command, others.get(line, line))
-        reply = self.bench.ask(asked)
+        argument = line.partition(" ")[2]
+        reply = self.bench.ask({"changes": "changes", "tests": "events " + argument}.get(name, ASKED.get(line, line)))
         if not self.is_done(reply, line):
             return
         self.nonsense = 0
-        if hasattr(self, "reply_" + command):
-            shown = getattr(self, "reply_" + command)(argument, reply.lines)
+        if hasattr(self, "reply_" + name):
+            shown = getattr(self, "reply_" + name)(argument, reply.lines)
         else:
-            shown = [] if reply.lines == ["ok"] else reports.laid_out(command, reply.lines, self.bench.places)
-        if path:
-            self.keep_report(typed, path, shown)
-        else:
-            self.screen.write(shown, is_report=command in REPORTING, is_text=command in TEXTS, last=FIGURES.get(command, 0))
-
-    def keep_report(self, line: str, path: str, shown: Sequence[str]) -> None:
-        """Writes a report to a file; to one that is there only if the line is typed again."""
-        if self.may_write(line, path):
-            why = "" if screen.to_file(path, shown) else words.not_written(line.partition(" ")[0], path, self.bench)
+            shown = [] if reply.lines == ["ok"] else reports.laid_out(name, reply.lines, self.bench.places)
+        if not path:
+            self.screen.write(shown, is_report=name in REPORTING, is_text=name in TEXTS, last=FIGURES.get(name, 0))
+        elif self.may_write(typed, path):
+            why = "" if screen.to_file(path, shown) else words.not_written(name, path, self.bench)
             self.screen.say(why or "%s in %s" % (counted(len(shown), "line"), short(path)))
 
     # Replies that are shown with more than their rows
@@ -244,7 +232,6 @@ class Terminal(Desk):
         return (self.editor.read(last) or "").strip()
 
     def write(self, command: str, path: str) -> None:
-        """Has the script or the stems written to a file."""
         line, name = "%s %s" % (command, path), short(path)
         if path and not self.may_write(line, path):
             return
@@ -313,27 +300,23 @@ class Terminal(Desk):
         """Returns the line before a block; of `among NAME` with its number, which is asked for if there are several: nothing if there is no reply."""
         command, _, name = line.partition(" ")
         count = self.bench.places().count(name) if command == "among" and name else 0
-        if count == 1:
-            begins = '%s has 1 among, so this begins the block of "%s 1". A line with a single point ends it, Ctrl-C drops it.'
-            self.screen.say(begins % (short(name), line))
-            return line + " 1"
-        if count and not self.editor.pending:
+        if count > 1 and not self.editor.pending:
             number = self.asked(words.which_among(name, self.bench))
             return number and line + " " + number
-        return line
+        return line + " 1" * (count == 1)
 
-    def read_block(self, block: List[str]) -> None:
-        block[0] = self.with_number(block[0])
+    def read_block(self, typed: str, *first: str) -> None:
+        """Reads the lines of a block after the first ones, and has it done."""
+        block = [self.with_number(typed), *first]
         if not block[0]:
             self.screen.say("Nothing was done.")
             return
-        wrong = words.early(block[0], self.bench)
-        if wrong:
+        if wrong := words.early(block[0], self.bench):
             self.screen.say(wrong + " Nothing was done.")
             self.drop_pasted()
             return
-        begins = "Words that belong together, a family on each line." if block[0] == "families" else ""
-        begins = 'This begins the block of "%s".' % block[0] if len(block) > 1 else begins
+        begins = "Words that belong together, a family on each line." if typed == "families" else ""
+        begins = 'This begins the block of "%s".' % block[0] if block != [typed] else begins
         self.screen.say(begins + " A line with a single point ends it, Ctrl-C drops it." if begins else "")
         end = self.read_lines(block)
         self.bench.kept.note("block", [])
@@ -356,24 +339,19 @@ class Terminal(Desk):
         """Reads the lines of a block. Returns its point, nothing if the input ends before it, or that Ctrl-C dropped the block."""
         self.completion.is_in_block = True
         try:
-            while True:
-                line = self.editor.read("| ")
-                if line is None or line.strip() == ".":
-                    return (line or "").strip()
-                if self.is_command(line, block[0]):
+            while (line := self.editor.read("| ")) is not None and line.strip() != ".":
+                word = "".join(line.split()[:1])
+                # (a family may have any word)
+                is_command = word in COMMANDS and word not in LANGUAGE and block[0] != "families" and not self.bench.places().kind(word)
+                if is_command or line.strip() in ("quit", "exit", "help", "?"):
                     self.screen.say("This line is a part of the block. A line with a single point ends the block, Ctrl-C drops it.")
                 block.append(line)
                 self.bench.kept.note("block", block)
+            return (line or "").strip()
         except Dropped:
             return "dropped"
         finally:
             self.completion.is_in_block = False
-
-    def is_command(self, line: str, block: str) -> bool:
-        """Whether a line of a block is meant as a command, by its first word. (A family may have any word.)"""
-        word, is_family = [*line.split(), ""][0], block == "families"
-        is_meant = word in COMMANDS and word not in LANGUAGE and not is_family and not self.bench.places().kind(word)
-        return is_meant or line.strip() in ("quit", "exit", "help", "?")
 
     # Running
 
@@ -388,11 +366,6 @@ class Terminal(Desk):
         elif aside:
             doubts.insert(0, "A reload replaced what you typed (%s), and no file has all of it: undo goes back to it, quit again drops it." % aside)
         return self.is_sure("quit", *doubts)
-
-    def unchanged(self) -> str:
-        """Returns the sentence on a script that Enter reads again for nothing, but for what was typed; nothing if that is not so."""
-        is_typed = self.bench.script not in self.bench.saved() and self.bench.is_unsaved(self.bench.program.now.text)
-        return "%s has not changed: Enter again drops what you typed." % short(self.bench.script) if is_typed else ""
 
     def is_sure(self, line: str, *doubts: str) -> bool:
         """Whether nothing speaks against a command, or it is typed again; otherwise says what does."""
@@ -456,7 +429,9 @@ def main(given: Sequence[str]) -> int:
     try:
         found = options.options_of(given)
     except options.Misuse as why:
-        print("snowbench: " + "\n".join([*map(layout.named, why.args), USAGE]), file=sys.stderr)
+        width = os.isatty(2) and os.get_terminal_size(2).columns or sys.maxsize
+        lines = ["snowbench: " + layout.named(why.args[0]), *why.args[1:], USAGE]
+        print(*(part for line in lines for part in layout.broken(line, width)), sep="\n", file=sys.stderr)
         return 2
     files = [found.script, found.words] if found.words else [found.script]
     if found.has_rows or not (os.isatty(0) and os.isatty(1)):

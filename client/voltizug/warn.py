@@ -52,7 +52,6 @@ def on_numbers(name: str, path: str, found: Sequence[int], what: str, then: str)
 
 
 def on_several(name: str, path: str, text: str) -> List[str]:
-    """Returns the warnings on lines with several words, as in a table or a running text."""
     lines, said = [line.strip() for line in text.split("\n")], []  # type: List[str], List[str]
     for sign, what, command in BETWEEN:
         rows = [line.split(sign.strip(" ") or None) for line in lines if sign in line]
@@ -66,7 +65,6 @@ def on_several(name: str, path: str, text: str) -> List[str]:
 
 
 def on_repeats(name: str, path: str, text: str) -> List[str]:
-    """Returns the warning on words that are there already."""
     there, found = set(), []  # type: Set[str], List[int]
     for number, line in enumerate(text.split("\n"), 1):
         if line in there:

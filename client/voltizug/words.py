@@ -88,7 +88,6 @@ def sentence(reply: Reply, lines: Sequence[str], bench: Stage) -> str:
 
 
 def refused(code: int, line: str, bench: Stage) -> str:
-    """Returns the sentence for a line, by the number of its refusal."""
     command, _, argument = line.partition(" ")
     if code in (41, 42, 45, 53) and not argument:
         return "%s needs a %s: %s." % (command, COMMANDS[command].takes.partition(" ")[0].lower(), COMMANDS[command].usage)
@@ -99,7 +98,6 @@ def refused(code: int, line: str, bench: Stage) -> str:
 
 
 def file_of(line: str, bench: Stage) -> str:
-    """Returns the file that a command reads."""
     return (bench.words if line == "words" else line.partition(" ")[2] or bench.script) or ""
 
 
@@ -153,7 +151,6 @@ def no_stem(_: str, bench: Stage) -> str:
 
 
 def no_name(line: str, bench: Stage) -> str:
-    """The sentence for a name that the script does not define so."""
     command, _, argument = line.partition(" ")
     places, kinds, name = bench.places(), NAMED[command], argument.partition(" ")[0]
     kind, there, begin = places.kind(name), places.of_kind(*kinds), "%s %s: " % (command, short(name))
@@ -222,7 +219,6 @@ def strange(line: str, table: Sequence[Tuple[str, str]] = STRANGE) -> str:
 
 
 def no_command(line: str) -> str:
-    """The sentence for a line that begins with no command."""
     command = line.partition(" ")[0]
     longer = [name for name in COMMANDS if name.startswith(command.casefold())] if command else []
     question = meant(command, COMMANDS) or (" Did you mean %s?" % in_words(longer, "or") if 0 < len(longer) < 4 else "")
@@ -279,7 +275,6 @@ def unreadable(path: str) -> str:
 
 
 def in_shell(path: str) -> str:
-    """Returns the name of a file as a command of a shell has it."""
     return named(shlex.quote("./" + path if path.startswith("-") else path))
 
 
@@ -309,7 +304,6 @@ def early(line: str, bench: Bench) -> str:
 
 
 def which_among(name: str, bench: Stage) -> str:
-    """Returns the question which among of a routine is meant, with their places."""
     places = bench.places()
     found = [(k, places.of(name, k)) for other, k in places.amongs if other == name]
     return "Which among of %s, %s? " % (short(name), in_words(["%s (%s)" % each if each[1] else each[0] for each in found], "or"))

@@ -159,7 +159,7 @@ class Live:
                 gone = gone + 1 if now[0] is None else 0
                 if gone == round(1 / PERIOD):
                     self.publish(notice="%s is not there now. What you see is what it had last." % named(self.bench.script))
-                if now == before and self.bench.saved():
+                if now == before and self.bench.ready():
                     self.read_saved()
                 elif self.may_settle():
                     self.settle()
@@ -171,7 +171,7 @@ class Live:
 
     def read_saved(self) -> None:
         with self.turn:
-            saved = self.bench.saved()
+            saved = self.bench.ready()
             if self.bench.is_waiting:
                 self.open()
             elif self.bench.script in saved:
