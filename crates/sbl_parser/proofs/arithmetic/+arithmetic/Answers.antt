@@ -1,5 +1,5 @@
 use Rattle.std.specs.Prelude.{Some}
-use Rattle.std.proofs.Common.{◌≡◌, ℕ, ◌+◌, ◌<◌, ◌∷◌, ◌++◌, List, [], length, map, arith, ap, sym, refl, subst, ◌∙◌}
+use Rattle.std.proofs.Common.{rules, ◌≡◌, ℕ, ◌+◌, ◌<◌, ◌∷◌, ◌++◌, List, [], length, map, arith, ap, sym, refl, subst, ◌∙◌}
 use Rattle.std.proofs.lemmas.List.{map_push}
 use Rattle.std.proofs.lemmas.Result.{err_from_is_err_and}
 use Rattle.sbl_ast.specs.declared.tree.NextProduct.{NextProduct}
@@ -96,3 +96,8 @@ bracket_factor-returns-in_err-inner t_ c =
     let first : ahead c.args.cursor.now ≡ t.open_ ∷ ahead c.skip.new.self = d.head_of_drop (ahead c.args.cursor.now) (ahead c.skip.new.self) t.open_ (of_role.as_terminal (ahead c.args.cursor.now) t.open_ refl c.requires.first) c.skip.ensures in
     let p = err_from_is_err_and c.from_residual.result c.from_residual.ensures.1 in
     rw (p.1, p.2) (λ k. d.fails_along _ _ _ (d.goes_on (ahead c.args.cursor.now) t.open_ (ahead c.skip.new.self) (s.factor c.args.depth ∷ k) (s.expression (c.args.depth + 1) (s.closing (c.args.depth + 1) ∷ k)) (c.args.depth + 1) first refl (omega arith)) (c.in_err-inner.ensures (s.closing (c.args.depth + 1) ∷ k)))
+
+pub bracket_factor-returns : goal.bracket_factor-returns
+bracket_factor-returns t_ c =
+    subst (λ (x : trees.Factor). (ahead c.args.cursor.now ≡ written.spelled_factor x (ahead c.take.new.self)) × ((k : s.Stack) → s.fault (ahead c.args.cursor.now) (s.factor c.args.depth ∷ k) ≡ s.fault (ahead c.take.new.self) k))
+    (sym (views.factor_Bracket c.in_ok-new.field-0)) (search rules)
