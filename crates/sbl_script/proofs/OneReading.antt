@@ -16,7 +16,7 @@ use Rattle.sbl_parser.specs.Reading.{IsReadAs, IsSyntaxAt, IsTooDeepAt, IsOutOfP
 use Rattle.sbl_parser.specs.Laws as grammar
 use Rattle.sbl_ast.specs.Source.{Source}
 use Rattle.sbl_resolver.specs.Checks.{fault_of}
-use Rattle.sbl_script.proofs.Places.{IsGrammarFault}
+use Rattle.sbl_script.proofs.Places.{IsGrammarFault, IsUnreadByKind, by_kind}
 use Rattle.sbl_script.specs.Reading.{HasTokens, IsScriptOf, IsTextFault, IsUnread, IsFaultIn, IsFaultOf, first_left_out, place_of, lexemes}
 
 -- what is known of tokens and of trees
@@ -107,14 +107,18 @@ pub some_none : {X : Type 0} (x : X) (o : Option X) → o ≡ None → o ≡ Som
 some_none x o a b = cc
 
 pub unread_is_one : Facts → (w : Text) (ts : List PlacedToken) (end : ℕ) (f g : ScriptFault) → IsUnread w ts end f → IsUnread w ts end g → f ≡ g
-unread_is_one k w ts end f g (inl a) (inl b) = a.2 ∙ ap fault.OutOfProfile (some_one a.0 b.0 (sym a.1 ∙ b.1)) ∙ sym b.2
-unread_is_one k w ts end f g (inl a) (inr b) = absurd (some_none a.0 (first_left_out ts) b.0 a.1)
-unread_is_one k w ts end f g (inr a) (inl b) = absurd (some_none b.0 (first_left_out ts) a.0 b.1)
-unread_is_one k w ts end f g (inr a) (inr b) = grammar_is_one k w ts end f g a.1 b.1
+unread_is_one k w ts end f g h j = go (by_kind w ts end f h) (by_kind w ts end g j) where
+  go : IsUnreadByKind w ts end f → IsUnreadByKind w ts end g → f ≡ g
+  go (inl a) (inl b) = a.2 ∙ ap fault.OutOfProfile (some_one a.0 b.0 (sym a.1 ∙ b.1)) ∙ sym b.2
+  go (inl a) (inr b) = absurd (some_none a.0 (first_left_out ts) b.0 a.1)
+  go (inr a) (inl b) = absurd (some_none b.0 (first_left_out ts) a.0 b.1)
+  go (inr a) (inr b) = grammar_is_one k w ts end f g a.1 b.1
 
 pub no_unread : Facts → (w : Text) (ts : List PlacedToken) (end : ℕ) (f : ScriptFault) (tree : TreeOf w) → first_left_out ts ≡ None → IsReadAs w (lexemes ts) tree → IsUnread w ts end f → ⊥
-no_unread k w ts end f tree offered h (inl a) = some_none a.0 (first_left_out ts) offered a.1
-no_unread k w ts end f tree offered h (inr a) = no_grammar_fault k w ts end f tree h a.1
+no_unread k w ts end f tree offered h j = go (by_kind w ts end f j) where
+  go : IsUnreadByKind w ts end f → ⊥
+  go (inl a) = some_none a.0 (first_left_out ts) offered a.1
+  go (inr a) = no_grammar_fault k w ts end f tree h a.1
 
 -- ---- the checks
 

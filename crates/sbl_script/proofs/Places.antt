@@ -1,5 +1,5 @@
 -- Where the faults of the grammar stand.
-use Rattle.std.proofs.Common.{◌≡◌, ◌⊎◌, ℕ, List, [], ◌∷◌, ◌++◌, None, length, map, take, drop, refl, sym, ap, subst, ◌∙◌, inl, inr, Result, Ok, Err, IfErr, IfOk}
+use Rattle.std.proofs.Common.{◌≡◌, ◌⊎◌, ℕ, List, [], ◌∷◌, ◌++◌, None, Some, length, map, take, drop, refl, sym, ap, subst, ◌∙◌, inl, inr, Result, Ok, Err, IfErr, IfOk}
 use Rattle.std.proofs.lemmas.List.{take-append-drop, map-append}
 use Rattle.sbl_text.specs.declared.fault.ScriptFault.{ScriptFault}
 use Rattle.sbl_text.specs.declared.fault.ScriptFault.TheVariants as fault
@@ -27,7 +27,7 @@ lexemes_of_drop : (P : List Lexeme → List Lexeme → Type 0) (ts : List Token)
 lexemes_of_drop P ts n h =
     subst (λ (x : List Lexeme). P x (lexemes (map placed_of (drop n ts)))) (lexemes_same ts) (subst (λ (x : List Lexeme). P (map lexeme_of ts) x) (lexemes_same (drop n ts)) h)
 
--- the tokens, in a text of this length, form no tree, or one is too deep: the second part of `IsUnread`
+-- the tokens, in a text of this length, form no tree, or one is too deep
 abbrev pub IsGrammarFault : Text → List PlacedToken → ℕ → ScriptFault → Type 0
 IsGrammarFault w ts end f =
     (before : List PlacedToken) × (rest : List PlacedToken) × (ts ≡ before ++ rest)
@@ -45,11 +45,33 @@ grammar_fault_of w ts end (fault.OutOfProfile place) (n, is, h) =
     (map placed_of (take n ts), map placed_of (drop n ts), map_placed_cut ts n, inr (inr (lexemes_of_drop (IsOutOfProfileAt w) ts n h, ap fault.OutOfProfile (is ∙ place_same (drop n ts) end))))
 grammar_fault_of w ts end _ h = absurd h
 
+-- the same as `IsUnread`, by what is wrong
+abbrev pub IsUnreadByKind : Text → List PlacedToken → ℕ → ScriptFault → Type 0
+IsUnreadByKind w ts end f =
+    ((place : ℕ) × (first_left_out ts ≡ Some place) × (f ≡ fault.OutOfProfile place)) ⊎ ((first_left_out ts ≡ None) × IsGrammarFault w ts end f)
+
+pub by_kind : (w : Text) (ts : List PlacedToken) (end : ℕ) (f : ScriptFault) → IsUnread w ts end f → IsUnreadByKind w ts end f
+by_kind w ts end (fault.Syntax place) (offered, before, rest, split, h, at) = inr (offered, (before, rest, split, inl (h, ap fault.Syntax at)))
+by_kind w ts end (fault.TooDeep place) (offered, before, rest, split, h, at) = inr (offered, (before, rest, split, inr (inl (h, ap fault.TooDeep at))))
+by_kind w ts end (fault.OutOfProfile place) (inl left) = inl (place, left, refl)
+by_kind w ts end (fault.OutOfProfile place) (inr (offered, before, rest, split, h, at)) =
+    inr (offered, (before, rest, split, inr (inr (h, ap fault.OutOfProfile at))))
+by_kind w ts end _ h = absurd h
+
+pub of_kind : (w : Text) (ts : List PlacedToken) (end : ℕ) (f : ScriptFault) → IsUnreadByKind w ts end f → IsUnread w ts end f
+of_kind w ts end f (inl (place, left, said)) = subst (λ (x : ScriptFault). IsUnread w ts end x) (sym said) (inl left)
+of_kind w ts end f (inr (offered, before, rest, split, inl (h, said))) =
+    subst (λ (x : ScriptFault). IsUnread w ts end x) (sym said) (offered, (before, rest, split, h, refl))
+of_kind w ts end f (inr (offered, before, rest, split, inr (inl (h, said)))) =
+    subst (λ (x : ScriptFault). IsUnread w ts end x) (sym said) (offered, (before, rest, split, h, refl))
+of_kind w ts end f (inr (offered, before, rest, split, inr (inr (h, said)))) =
+    subst (λ (x : ScriptFault). IsUnread w ts end x) (sym said) (inr (offered, (before, rest, split, h, refl)))
+
 pub unread : {X : Type 0} (w : Text) (r : Result X ScriptFault) (ts : List Token) (end : ℕ) → first_left_out (map placed_of ts) ≡ None
     → IfErr r (λ f. (f ≡ fault.OutOfMemory) ⊎ grammar.IsFaultOf w ts end f) → IfErr r (λ f. (f ≡ fault.OutOfMemory) ⊎ IsUnread w (map placed_of ts) end f)
 unread w (Ok x) ts end offered h = h
 unread w (Err f) ts end offered (inl e) = inl e
-unread w (Err f) ts end offered (inr h) = inr (inr (offered, grammar_fault_of w ts end f h))
+unread w (Err f) ts end offered (inr h) = inr (of_kind w (map placed_of ts) end f (inr (offered, grammar_fault_of w ts end f h)))
 
 pub read_as : {X : Type 0} (r : Result X ScriptFault) (P : List Lexeme → X → Type 0) (ts : List Token) → IfOk r (λ x. P (map lexeme_of ts) x) → IfOk r (λ x. P (lexemes (map placed_of ts)) x)
 read_as (Ok x) P ts h = subst (λ (t : List Lexeme). P t x) (lexemes_same ts) h

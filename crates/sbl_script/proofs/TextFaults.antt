@@ -20,6 +20,7 @@ use Rattle.sbl_text.specs.inside.TokenParts.{starts_star, pair_fault, token_faul
 use Rattle.sbl_ast.specs.Texts.{Text}
 use Rattle.sbl_script.specs.OnlyTheItem.{item_of}
 use Rattle.sbl_script.specs.Reading.{IsTextFault, IsUnread}
+use Rattle.sbl_script.proofs.Places.{IsUnreadByKind, by_kind}
 
 -- the external that is run fails
 abbrev lacks_external : ScriptFault → Bool
@@ -128,5 +129,7 @@ text_fault s bytes f (inr (inr (short, is, (before, rest, ps, t, parts, cut, inl
 text_fault s bytes f (inr (inr (short, is, (before, rest, ps, t, parts, cut, inr (k, x, more, split, piece, bad))))) = piece_of_text t k x _ f bad
 
 pub unread : (w : Text) (ts : List PlacedToken) (end : ℕ) (f : ScriptFault) → IsUnread w ts end f → is_checked f ≡ false
-unread w ts end f (inl (place, left, said)) = as_said f _ refl said
-unread w ts end f (inr (offered, g)) = one_of_three f _ _ _ refl refl refl g.3
+unread w ts end f h = by (by_kind w ts end f h) where
+  by : IsUnreadByKind w ts end f → is_checked f ≡ false
+  by (inl (place, left, said)) = as_said f _ refl said
+  by (inr (offered, g)) = one_of_three f _ _ _ refl refl refl g.3

@@ -1,5 +1,5 @@
 -- What it means to read a script, and why bytes are not a script.
-use Rattle.std.specs.Prelude.{◌≡◌, ◌⊎◌, ℕ, ◌<◌, ◌≤◌, List, [], ◌∷◌, ◌++◌, length, map, slice_get, Option, Some, None, if◌then◌else◌}
+use Rattle.std.specs.Prelude.{◌≡◌, ◌⊎◌, ⊥, ℕ, ◌<◌, ◌≤◌, List, [], ◌∷◌, ◌++◌, length, map, slice_get, Option, Some, None, if◌then◌else◌}
 use Rattle.std.specs.Option.{option_map_or}
 use Rattle.std.specs.Str.{IsUtf8, chars}
 use Rattle.sbl_text.specs.declared.fault.ScriptFault.{ScriptFault}
@@ -57,14 +57,17 @@ IsTextFault s bytes f =
 abbrev pub place_of : ℕ → List PlacedToken → ℕ
 place_of end ts = option_map_or (λ t. t.start) (slice_get ts 0) end
 
+-- all tokens are supported, and the condition holds of them and of those from the fault's place on
+abbrev pub IsRestAt : (List Lexeme → List Lexeme → Type 0) → List PlacedToken → ℕ → ℕ → Type 0
+IsRestAt Holds ts end place = (first_left_out ts ≡ None) × ((before : List PlacedToken) × (rest : List PlacedToken)
+    × (ts ≡ before ++ rest) × Holds (lexemes ts) (lexemes rest) × (place ≡ place_of end rest))
+
 -- a token is not supported; or the tokens, in a text of this length, form no tree, or one is too deep
 abbrev pub IsUnread : Text → List PlacedToken → ℕ → ScriptFault → Type 0
-IsUnread w ts end f =
-    ((place : ℕ) × (first_left_out ts ≡ Some place) × (f ≡ fault.OutOfProfile place))
-    ⊎ ((first_left_out ts ≡ None) × ((before : List PlacedToken) × (rest : List PlacedToken) × (ts ≡ before ++ rest)
-    × ((IsSyntaxAt w (lexemes ts) (lexemes rest) × (f ≡ fault.Syntax (place_of end rest)))
-    ⊎ (IsTooDeepAt w (lexemes ts) (lexemes rest) × (f ≡ fault.TooDeep (place_of end rest)))
-    ⊎ (IsOutOfProfileAt w (lexemes ts) (lexemes rest) × (f ≡ fault.OutOfProfile (place_of end rest))))))
+IsUnread w ts end (fault.Syntax place) = IsRestAt (IsSyntaxAt w) ts end place
+IsUnread w ts end (fault.TooDeep place) = IsRestAt (IsTooDeepAt w) ts end place
+IsUnread w ts end (fault.OutOfProfile place) = (first_left_out ts ≡ Some place) ⊎ IsRestAt (IsOutOfProfileAt w) ts end place
+IsUnread w ts end f = ⊥
 
 -- f is the fault of a text that begins in state s: as bytes, else as tokens, else in a check of the items that `around` makes of its tree
 abbrev pub IsFaultIn : (w : Text) → Directives → (TreeOf w → List Item) → List ℕ → List ℕ → ScriptFault → Type 0
