@@ -188,22 +188,23 @@ fn is_marked_in(rows: &[Vec<u32>], i: usize, k: usize, round: u32) -> bool
     }
 }
 
-// Sets a mark; past the end nothing is done.
+// Sets a mark that exists.
+#[inline(always)]
 fn set(marks: &mut Vec<u32>, i: usize, round: u32)
+    requires { i < length marks.old.items }
     ensures { marks.new.items ≡ slice_set marks.old.items i round }
 {
-    if i < marks.len() {
-        marks[i] = round;
-    }
+    marks[i] = round;
 }
 
 // Does the same for a mark of a row.
+#[inline(always)]
 fn set_in(rows: &mut Vec<Vec<u32>>, i: usize, k: usize, round: u32)
+    requires there { i < length rows.old.items }
+    requires in_row { k < length (slice_index_or (map (λ row. row.items) rows.old.items) i []) }
     ensures { map (λ row. row.items) rows.new.items ≡ slice_set (map (λ row. row.items) rows.old.items) i (slice_set (slice_index_or (map (λ row. row.items) rows.old.items) i []) k round) }
 {
-    if i < rows.len() {
-        set(&mut rows[i], k, round);
-    }
+    set(&mut rows[i], k, round);
 }
 
 // Makes sure that a mark exists. Returns `AllocError` if an allocation fails.

@@ -152,7 +152,7 @@ impl Script {
     ghost use Rattle.sbl_script.specs.ParsedScript.{body_of};
     ghost use Rattle.sbl_print.specs.Canonical.{canonical};
     ghost use Rattle.sbl_script.specs.Reading.{HasTokens};
-    ghost use Rattle.sbl_ast.specs.NamedParts.{Among, Grouping, Routine};
+    ghost use Rattle.sbl_ast.specs.NamedParts.{Among as among, Grouping, Routine};
     ghost use Rattle.sbl_script.specs.Edits.{IsEditFault, IsEdited, changes, items_with, text_for};
     ghost use Rattle.sbl_script.specs.Homes.{state_reached};
     ghost use Rattle.sbl_script.specs.Parts.{view_part};
@@ -230,9 +230,9 @@ impl Script {
         k: u64,
         text: &str,
     ) -> Result<Script, EditFault>
-        ensures script { IfOk result (λ s. IsEdited (source_of self.now) (Among routine.now k) text.now (source_of s)) }
-        ensures fault { IfErr result (λ f. (f ≡ EditFault.OutOfMemory) ⊎ IsEditFault (source_of self.now) (Among routine.now k) text.now f) }
-        ensures missing { (f : EditFault) → text_for (source_of self.now).items (Among routine.now k) ≡ Err f → result ≡ Err f }
+        ensures script { IfOk result (λ s. IsEdited (source_of self.now) (among routine.now k) text.now (source_of s)) }
+        ensures fault { IfErr result (λ f. (f ≡ EditFault.OutOfMemory) ⊎ IsEditFault (source_of self.now) (among routine.now k) text.now f) }
+        ensures missing { (f : EditFault) → text_for (source_of self.now).items (among routine.now k) ≡ Err f → result ≡ Err f }
     {
         self.with(alloc, Part::Among(routine, k), text)
     }
@@ -268,9 +268,9 @@ impl Script {
         k: u64,
         text: &str,
     ) -> Result<Script, EditFault>
-        ensures script { IfOk result (λ s. IsEdited (source_of self.now) (Among routine.now k) text.now (source_of s)) }
-        ensures fault { IfErr result (λ f. (f ≡ EditFault.OutOfMemory) ⊎ IsEditFault (source_of self.now) (Among routine.now k) text.now f) }
-        ensures missing { (f : EditFault) → text_for (source_of self.now).items (Among routine.now k) ≡ Err f → result ≡ Err f }
+        ensures script { IfOk result (λ s. IsEdited (source_of self.now) (among routine.now k) text.now (source_of s)) }
+        ensures fault { IfErr result (λ f. (f ≡ EditFault.OutOfMemory) ⊎ IsEditFault (source_of self.now) (among routine.now k) text.now f) }
+        ensures missing { (f : EditFault) → text_for (source_of self.now).items (among routine.now k) ≡ Err f → result ≡ Err f }
     {
         let Some(body) = edits::routine_of(&self.items, routine) else {
             return Err(EditFault::NoRoutine);

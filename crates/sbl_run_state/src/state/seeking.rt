@@ -10,6 +10,7 @@ ghost use Rattle.sbl_program.specs.Actions.{test_grouping};
 ghost use Rattle.sbl_run_state.specs.Seeking.{count_before, seek_ending};
 ghost use Rattle.sbl_semantics.specs.Fitting.{read_as};
 ghost use Rattle.sbl_semantics.specs.Touches.{with_touch};
+ghost use Rattle.sbl_ast.specs.declared.mode.Mode.TheVariants.{Forward, Backward};
 ghost use Rattle.sbl_semantics.specs.declared.touch.Touch.TheVariants.{Tested};
 ghost use Rattle.sbl_semantics.specs.inside.MoveParts.{next_is};
 ghost use Rattle.sbl_semantics.specs.State.{Signals, ahead, move_cursor, room};
@@ -95,6 +96,38 @@ impl State {
         Ok(self.seek_over(past, mode, before, len))
     }
 
+    // Does what `seek_touched` does, forwards.
+    #[inline(never)]
+    fn seek_forward(
+        &mut self,
+        past: bool,
+        classes: &[CharacterClass],
+        number: usize,
+        wanted: bool,
+    ) -> Result<bool, Halt>
+        requires { with_touch (Tested number) self.old.touched ≡ self.old.touched }
+        ensures follows { Follows result self.new (seeks (suc self.old.steps) past (pay_first (test_grouping wanted (class_at (map members classes.now) number) number)) Forward self.old) }
+        ensures no_more { IfOk result (λ _. self.new.steps ≤ self.old.steps) }
+    {
+        self.seek_touched(past, Mode::Forward, classes, number, wanted)
+    }
+
+    // Does the same backwards.
+    #[inline(never)]
+    fn seek_backward(
+        &mut self,
+        past: bool,
+        classes: &[CharacterClass],
+        number: usize,
+        wanted: bool,
+    ) -> Result<bool, Halt>
+        requires { with_touch (Tested number) self.old.touched ≡ self.old.touched }
+        ensures follows { Follows result self.new (seeks (suc self.old.steps) past (pay_first (test_grouping wanted (class_at (map members classes.now) number) number)) Backward self.old) }
+        ensures no_more { IfOk result (λ _. self.new.steps ≤ self.old.steps) }
+    {
+        self.seek_touched(past, Mode::Backward, classes, number, wanted)
+    }
+
     /// Tests the grouping with this number at the cursor and further on, up to the first t. The cursor stays after the
     /// match if `past`, and else goes before it. The first test touches the grouping, and no later one does.
     #[inline(never)]
@@ -113,7 +146,10 @@ impl State {
             return Err(Halt::Steps);
         }
         self.touch_grouping(number)?;
-        self.seek_touched(past, mode, classes, number, wanted)
+        match mode {
+            Mode::Forward => self.seek_forward(past, classes, number, wanted),
+            Mode::Backward => self.seek_backward(past, classes, number, wanted),
+        }
     }
 }
 
