@@ -51,20 +51,20 @@ IsUnreadByKind w ts end f =
     ((place : ℕ) × (first_left_out ts ≡ Some place) × (f ≡ fault.OutOfProfile place)) ⊎ ((first_left_out ts ≡ None) × IsGrammarFault w ts end f)
 
 pub by_kind : (w : Text) (ts : List PlacedToken) (end : ℕ) (f : ScriptFault) → IsUnread w ts end f → IsUnreadByKind w ts end f
-by_kind w ts end (fault.Syntax place) (offered, before, rest, split, h, at) = inr (offered, (before, rest, split, inl (h, ap fault.Syntax at)))
-by_kind w ts end (fault.TooDeep place) (offered, before, rest, split, h, at) = inr (offered, (before, rest, split, inr (inl (h, ap fault.TooDeep at))))
+by_kind w ts end (fault.Syntax place) (offered, (before, rest, split, h, at)) = inr (offered, (before, rest, split, inl (h, ap fault.Syntax at)))
+by_kind w ts end (fault.TooDeep place) (offered, (before, rest, split, h, at)) = inr (offered, (before, rest, split, inr (inl (h, ap fault.TooDeep at))))
 by_kind w ts end (fault.OutOfProfile place) (inl left) = inl (place, left, refl)
-by_kind w ts end (fault.OutOfProfile place) (inr (offered, before, rest, split, h, at)) =
+by_kind w ts end (fault.OutOfProfile place) (inr (offered, (before, rest, split, h, at))) =
     inr (offered, (before, rest, split, inr (inr (h, ap fault.OutOfProfile at))))
 by_kind w ts end _ h = absurd h
 
 pub of_kind : (w : Text) (ts : List PlacedToken) (end : ℕ) (f : ScriptFault) → IsUnreadByKind w ts end f → IsUnread w ts end f
 of_kind w ts end f (inl (place, left, said)) = subst (λ (x : ScriptFault). IsUnread w ts end x) (sym said) (inl left)
-of_kind w ts end f (inr (offered, before, rest, split, inl (h, said))) =
+of_kind w ts end f (inr (offered, (before, rest, split, inl (h, said)))) =
     subst (λ (x : ScriptFault). IsUnread w ts end x) (sym said) (offered, (before, rest, split, h, refl))
-of_kind w ts end f (inr (offered, before, rest, split, inr (inl (h, said)))) =
+of_kind w ts end f (inr (offered, (before, rest, split, inr (inl (h, said))))) =
     subst (λ (x : ScriptFault). IsUnread w ts end x) (sym said) (offered, (before, rest, split, h, refl))
-of_kind w ts end f (inr (offered, before, rest, split, inr (inr (h, said)))) =
+of_kind w ts end f (inr (offered, (before, rest, split, inr (inr (h, said))))) =
     subst (λ (x : ScriptFault). IsUnread w ts end x) (sym said) (inr (offered, (before, rest, split, h, refl)))
 
 pub unread : {X : Type 0} (w : Text) (r : Result X ScriptFault) (ts : List Token) (end : ℕ) → first_left_out (map placed_of ts) ≡ None
