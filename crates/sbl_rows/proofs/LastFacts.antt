@@ -1,6 +1,9 @@
 -- The last class of a list, seen as a class by `view`.
 use Rattle.std.proofs.Common.{◌≡◌, ◌∙◌, ◌-◌, ◌<◌, ◌++◌, ◌∷◌, [], ℕ, suc, List, map, length, Some, slice_get, slice_index_or, slice_set, arith, ap, subst}
+use Rattle.std.specs.declared.vec.Vec.{Vec}
+use Rattle.std.specs.declared.alloc.Global.{Global}
 use Rattle.std.specs.Str.{bytes_eq}
+use Rattle.std.specs.Vec.{vec_len}
 use Rattle.sbl_rows.specs.Classes.{Class}
 use Rattle.sbl_rows.specs.Grouping.{is_last, put_in_last}
 
@@ -29,3 +32,8 @@ last_member {C} view (d ∷ f ∷ cs) n c new member e some h same more =
     let z : n ≡ suc (length cs) = omega (arith, e) in
     ap (λ (k : ℕ). map view (slice_set (d ∷ f ∷ cs) k new)) z
     ∙ ap (λ l. view d ∷ l) (last_member view (f ∷ cs) (length cs) c new member (omega arith) (omega arith) (subst (λ (k : ℕ). c ≡ slice_index_or (d ∷ f ∷ cs) k c) z h) same more)
+
+-- the same in a vector
+pub last_in_vec : {C : Type 0} (view : C → Class) (cs : Vec C Global) (c new : C) (member : List ℕ) → 0 < vec_len cs → c ≡ slice_index_or cs.items (vec_len cs - 1) c
+    → (view new).stem ≡ (view c).stem → (view new).members ≡ (view c).members ++ member ∷ [] → map view (slice_set cs.items (vec_len cs - 1) new) ≡ put_in_last (map view cs.items) member
+last_in_vec {C} view cs c new member some = let k = cs.ok.0 in last_member view cs.items (vec_len cs - 1) c new member (omega arith) (omega arith)

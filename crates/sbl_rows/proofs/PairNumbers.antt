@@ -1,9 +1,12 @@
 -- Numbers of pairs: of a list with one more, of two lists, of all pairs.
 use Rattle.std.proofs.Common.{◌≡◌, ◌∙◌, ◌+◌, ◌*◌, ◌-◌, ◌/◌, ◌≤◌, ◌<◌, ◌^◌, ◌++◌, Bool, true, false, not, cond, ℕ, suc, List, [], ◌∷◌, length, arith, refl, ap}
 use Rattle.std.specs.List.{count_by}
+use Rattle.std.proofs.lemmas.List.{length-map, map-append}
 use Rattle.std.proofs.lemmas.List.Sums.{count_by-le-length, sum_by-append, sum_by-cons, sum_by_push}
+use Rattle.sbl_rows.specs.declared.stem_class.StemPair.{StemPair}
 use Rattle.sbl_rows.specs.Classes.{Pair}
 use Rattle.sbl_rows.specs.Families.{all_of, any_two, other_stem, pairs_across, pairs_between, pairs_in, pairs_within, same_stem}
+use Rattle.sbl_rows.specs.Grouping.{view_pair, view_pairs}
 
 abbrev Test : Type 0
 Test = Pair → Pair → Bool
@@ -124,3 +127,14 @@ within-at t families words n e h =
     let b : pairs_in t (all_of families) ≤ pairs_in any_two (all_of families) = pairs-le t (all_of families) in
     let d : pairs_in any_two words ≡ pairs_in any_two (all_of families) = ap (pairs_in any_two) e in
     omega arith
+
+-- the pairs of the words of a family and of those before it are few enough to be added
+pub together-fit : (before family after : List StemPair) → after ≡ before ++ family → length after < 2 ^ 64 → pairs_in any_two (view_pairs before) + pairs_in any_two (view_pairs family) < 2 ^ 127
+together-fit before family after e h =
+    let same : length (view_pairs after) ≡ length after = length-map after view_pair in
+    both-fit (view_pairs before) (view_pairs family) (view_pairs after) (ap view_pairs e ∙ map-append view_pair before family) (omega arith)
+
+-- a count of the pairs of all words is of those within families and of those across them
+pub within-across : (t : Test) (families : List (List Pair)) (words counted : List StemPair) (n : ℕ) → n ≡ pairs_in t (view_pairs counted) → counted ≡ words → view_pairs words ≡ all_of families
+    → n ≡ pairs_within t families + pairs_across t families
+within-across t families words counted n is same all = is ∙ ap (λ (l : List StemPair). pairs_in t (view_pairs l)) same ∙ ap (pairs_in t) all ∙ pairs-all t families

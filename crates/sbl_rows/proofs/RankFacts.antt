@@ -1,5 +1,5 @@
 -- The ranking, one class after another.
-use Rattle.std.proofs.Common.{◌≡◌, ◌∙◌, ◌++◌, List, [], ◌∷◌, map, length, refl, sym, ap}
+use Rattle.std.proofs.Common.{◌≡◌, ◌∙◌, ◌++◌, List, [], ◌∷◌, map, length, refl, sym, ap, subst}
 use Rattle.std.specs.List.{AllByRecursion}
 use Rattle.std.specs.declared.vec.Vec.{Vec}
 use Rattle.std.specs.declared.alloc.Global.{Global}
@@ -9,9 +9,10 @@ use Rattle.std.specs.Ordering.{match_ordering, nat_cmp, ordering_then}
 use Rattle.std.specs.Cmp.Lexicographic.{slice_cmp}
 use Rattle.std.specs.BTreeMap.{insert_entry}
 use Rattle.std.specs.BTreeSet.{replace_key}
-use Rattle.std.proofs.lemmas.List.{length-map}
+use Rattle.std.proofs.lemmas.List.{length-map, map-append}
 use Rattle.std.proofs.lemmas.Map.Lookups.{exact_bytes, exact_unsigned}
-use Rattle.sbl_rows.specs.Classes.{Class, texts_of}
+use Rattle.sbl_rows.specs.declared.stem_class.StemClass.{StemClass}
+use Rattle.sbl_rows.specs.Classes.{Class, texts_of, view_stem_class, view_stem_classes}
 use Rattle.sbl_rows.specs.KnownOutcomes.{Text}
 use Rattle.sbl_rows.specs.Largest.{by_size, size_cmp}
 use Rattle.sbl_rows.specs.Ranking.{Entry, Rank, view_entry}
@@ -73,3 +74,23 @@ onto-none (c ∷ classes) = ap (λ l. replace_key size_cmp l c) (onto-none class
 pub onto-last : (ranked classes : List Class) (c : Class) → onto ranked (classes ++ c ∷ []) ≡ onto (replace_key size_cmp ranked c) classes
 onto-last ranked [] c = refl
 onto-last ranked (d ∷ classes) c = ap (λ l. replace_key size_cmp l d) (onto-last ranked classes c)
+
+-- the classes so far are ranked, and these are still to come
+pub record IsRanking (entries : List Entry) (rest all : List StemClass) : Type 0 where
+  pub ranked : onto (map view_entry entries) (view_stem_classes rest) ≡ by_size (view_stem_classes all)
+  pub sized : Sized entries
+
+-- the last of these is ranked
+pub rank-last : (entries more : List Entry) (rest all before : List StemClass) (class : StemClass) (k : Rank) → k.0.0 ≡ length class.members.items → k.1 ≡ class.stem
+    → more ≡ insert_entry rank_cmp entries k class.members → before ≡ rest ++ class ∷ [] → IsRanking entries before all → IsRanking more rest all
+rank-last entries more rest all before class k size stem put last is = record {
+  ranked =
+      ap (λ (es : List Entry). onto (map view_entry es) (view_stem_classes rest)) put
+      ∙ ap (λ (l : List Class). onto l (view_stem_classes rest)) (view-insert entries k class.members size is.sized)
+      ∙ ap (λ (t : Text). onto (replace_key size_cmp (map view_entry entries) (record { stem = t.now; members = texts_of class.members.items })) (view_stem_classes rest)) stem
+      ∙ sym (onto-last (map view_entry entries) (view_stem_classes rest) (view_stem_class class))
+      ∙ ap (onto (map view_entry entries)) (sym (map-append view_stem_class rest (class ∷ [])))
+      ∙ ap (λ (cs : List StemClass). onto (map view_entry entries) (view_stem_classes cs)) (sym last)
+      ∙ is.ranked;
+  sized = subst Sized (sym put) (sized-insert entries k class.members size is.sized);
+}

@@ -1,9 +1,9 @@
-use Rattle.std.proofs.Common.{◌≡◌, ◌∙◌, ◌∷◌, [], List, map, length, ap, sym, subst}
-use Rattle.std.proofs.lemmas.List.{map-append, nil_from_length}
+use Rattle.std.proofs.Common.{◌≡◌, ◌∙◌, List, map, length, ap, refl, sym, subst}
+use Rattle.std.proofs.lemmas.List.{nil_from_length}
 use Rattle.sbl_rows.specs.declared.stem_class.StemClass.{StemClass}
-use Rattle.sbl_rows.specs.Classes.{Class, view_stem_class, view_stem_classes}
+use Rattle.sbl_rows.specs.Classes.{view_stem_classes}
 use Rattle.sbl_rows.specs.Ranking.{Entry, view_entry}
-use Rattle.sbl_rows.proofs.RankFacts.{Sized, onto, onto-last, onto-none, sized-insert, view-insert}
+use Rattle.sbl_rows.proofs.RankFacts.{Sized, onto, onto-none, rank-last}
 use Rattle.sbl_rows.proofs.largest.ranking_of.Goals as goal
 
 pub loop-class-init : goal.loop-class-init
@@ -14,37 +14,11 @@ loop-class-init c = record {
 
 pub loop-class-preserved : goal.loop-class-preserved
 loop-class-preserved c =
-    let es : List Entry = c.loop-class.ranking.entries in
-    let rest : List StemClass = c.pop.new.self.items in
-    let class : StemClass = c.in-Some.class in
-    let size : c.len.result ≡ length class.members.items = c.len.ensures ∙ class.members.ok.0 in
-    record {
-      ranked =
-          ap (λ (l : List Entry). onto (map view_entry l) (view_stem_classes rest)) c.in_ok-insert.ensures.entries
-          ∙ ap (λ (l : List Class). onto l (view_stem_classes rest)) (view-insert es _ class.members size c.loop-class.invariant.sized)
-          ∙ sym (onto-last (map view_entry es) (view_stem_classes rest) (view_stem_class class))
-          ∙ ap (onto (map view_entry es)) (sym (map-append view_stem_class rest (class ∷ [])))
-          ∙ ap (λ (cs : List StemClass). onto (map view_entry es) (view_stem_classes cs)) (sym c.in-Some.ensures.items)
-          ∙ c.loop-class.invariant.ranked;
-      sized = subst Sized (sym c.in_ok-insert.ensures.entries) (sized-insert es _ class.members size c.loop-class.invariant.sized);
-    }
+    rank-last c.loop-class.ranking.entries _ _ _ _ c.in-Some.class _ (c.len.ensures ∙ c.in-Some.class.members.ok.0) refl c.in_ok-insert.ensures.entries c.in-Some.ensures.items c.loop-class.invariant
 
 pub loop-class-preserved-in_ok-insert : goal.loop-class-preserved-in_ok-insert
 loop-class-preserved-in_ok-insert c =
-    let es : List Entry = c.loop-class.ranking.entries in
-    let rest : List StemClass = c.pop.new.self.items in
-    let class : StemClass = c.in-Some.class in
-    let size : c.len.result ≡ length class.members.items = c.len.ensures ∙ class.members.ok.0 in
-    record {
-      ranked =
-          ap (λ (l : List Entry). onto (map view_entry l) (view_stem_classes rest)) c.in_ok-insert.ensures.entries
-          ∙ ap (λ (l : List Class). onto l (view_stem_classes rest)) (view-insert es _ class.members size c.loop-class.invariant.sized)
-          ∙ sym (onto-last (map view_entry es) (view_stem_classes rest) (view_stem_class class))
-          ∙ ap (onto (map view_entry es)) (sym (map-append view_stem_class rest (class ∷ [])))
-          ∙ ap (λ (cs : List StemClass). onto (map view_entry es) (view_stem_classes cs)) (sym c.in-Some.ensures.items)
-          ∙ c.loop-class.invariant.ranked;
-      sized = subst Sized (sym c.in_ok-insert.ensures.entries) (sized-insert es _ class.members size c.loop-class.invariant.sized);
-    }
+    rank-last c.loop-class.ranking.entries _ _ _ _ c.in-Some.class _ (c.len.ensures ∙ c.in-Some.class.members.ok.0) refl c.in_ok-insert.ensures.entries c.in-Some.ensures.items c.loop-class.invariant
 
 pub returns : goal.returns
 returns c =
