@@ -2,22 +2,4 @@
 #![tactic(auto)]
 
 #[cfg(test)]
-mod benches;
-#[cfg(test)]
-mod checks;
-#[cfg(test)]
-mod compares;
-#[cfg(test)]
-mod cuts;
-#[cfg(test)]
-mod devices;
-#[cfg(test)]
-mod edit_replies;
-#[cfg(test)]
-mod filters;
-#[cfg(test)]
-mod lines;
-#[cfg(test)]
-mod sessions;
-#[cfg(test)]
-mod verbs;
+mod calls;

@@ -46,14 +46,21 @@ fn row_text(alloc: Global, row: &Row<'_>) -> Result<String, AllocError> {
     }
 }
 
+/// The texts of values, one after another.
+macro_rules! joined {
+    ($alloc:ident, $values:expr, $text_of:ident) => {{
+        let mut text = String::new($alloc);
+        for value in $values {
+            text.push_str($text_of($alloc, value)?.as_str())?;
+        }
+        text
+    }};
+}
+
 /// The rows of a bench.
 fn rows_text(alloc: Global, bench: &Bench) -> Result<String, AllocError> {
-    let mut text = String::new(alloc);
     let rows = bench.rows()?;
-    for row in &rows {
-        text.push_str(row_text(alloc, row)?.as_str())?;
-    }
-    Ok(text)
+    Ok(joined!(alloc, &rows, row_text))
 }
 
 /// A class as `STEM,WORD,WORD;`.
@@ -69,12 +76,8 @@ fn class_text(alloc: Global, class: &Class) -> Result<String, AllocError> {
 
 /// The classes of a bench.
 fn classes_text(alloc: Global, bench: &Bench) -> Result<String, AllocError> {
-    let mut text = String::new(alloc);
     let classes = bench.classes()?;
-    for class in &classes {
-        text.push_str(class_text(alloc, class)?.as_str())?;
-    }
-    Ok(text)
+    Ok(joined!(alloc, &classes, class_text))
 }
 
 /// The class of a word, `none` if there is none.
@@ -98,11 +101,7 @@ fn touched_text(alloc: Global, bench: &Bench, word: &str) -> Result<String, Allo
     let Some(items) = bench.touched(&letters(alloc, word)?)? else {
         return String::from_str(alloc, "none");
     };
-    let mut text = String::new(alloc);
-    for item in items.iter() {
-        text.push_str(item_text(alloc, item)?.as_str())?;
-    }
-    Ok(text)
+    Ok(joined!(alloc, items.iter(), item_text))
 }
 
 /// The items in which a script differs from that of a text, each with a semicolon; `more` if they differ in more.
@@ -113,11 +112,7 @@ fn differences_text(alloc: Global, script: &Script, other: &str) -> Result<Strin
     let Some(items) = differing? else {
         return Ok(String::from_str(alloc, "more")?);
     };
-    let mut text = String::new(alloc);
-    for item in &items {
-        text.push_str(item_text(alloc, item)?.as_str())?;
-    }
-    Ok(text)
+    Ok(joined!(alloc, &items, item_text))
 }
 
 /// Two scripts, and the items in which they differ.
@@ -180,23 +175,27 @@ fn asks(rt: &impl Abort, alloc: Global, bench: &Bench) -> Result<(), Fail> {
     Ok(())
 }
 
+/// Asks an opened bench, and drops it.
+macro_rules! with_bench {
+    ($rt:ident, $asked:ident: $opened:ident $script:literal, $words:expr) => {{
+        let mut bench = $opened($rt.alloc(), $script, $words)?;
+        let done = $asked(&$rt, $rt.alloc(), &mut bench);
+        drop(bench);
+        done
+    }};
+}
+
 /// Words with an empty one and a repeat, which are skipped.
 const PLURAL_WORDS: &str = "cats,boxes,,cakes,cake,boxes,dog";
 
 #[test]
 fn a_bench_has_rows_and_classes(rt: HostRuntime) -> Result<(), Fail> {
-    let bench = bench_over(rt.alloc(), "PLURALS", PLURAL_WORDS)?;
-    let done = asks(&rt, rt.alloc(), &bench);
-    drop(bench);
-    done
+    with_bench!(rt, asks: bench_over "PLURALS", PLURAL_WORDS)
 }
 
 #[test]
 fn a_bench_with_keys_is_the_same(rt: HostRuntime) -> Result<(), Fail> {
-    let bench = bench_with_keys(rt.alloc(), "PLURALS", PLURAL_WORDS)?;
-    let done = asks(&rt, rt.alloc(), &bench);
-    drop(bench);
-    done
+    with_bench!(rt, asks: bench_with_keys "PLURALS", PLURAL_WORDS)
 }
 
 /// Makes each edit of a word or of the script, and asserts what there is after it.
@@ -218,10 +217,7 @@ fn edits(rt: &impl Abort, alloc: Global, bench: &mut Bench) -> Result<(), Fail> 
 
 #[test]
 fn a_bench_runs_what_an_edit_concerns(rt: HostRuntime) -> Result<(), Fail> {
-    let mut bench = bench_over(rt.alloc(), "PLURALS", "cats,boxes,cakes,cake,dog")?;
-    let done = edits(&rt, rt.alloc(), &mut bench);
-    drop(bench);
-    done
+    with_bench!(rt, edits: bench_over "PLURALS", "cats,boxes,cakes,cake,dog")
 }
 
 /// Asserts what an edit of a grouping, and another limit, give.
@@ -240,10 +236,7 @@ fn edits_groupings(rt: &impl Abort, alloc: Global, bench: &mut Bench) -> Result<
 
 #[test]
 fn a_bench_takes_a_grouping_and_a_limit(rt: HostRuntime) -> Result<(), Fail> {
-    let mut bench = bench_over(rt.alloc(), "GROUPINGS", "xyb,ab,xb")?;
-    let done = edits_groupings(&rt, rt.alloc(), &mut bench);
-    drop(bench);
-    done
+    with_bench!(rt, edits_groupings: bench_over "GROUPINGS", "xyb,ab,xb")
 }
 
 /// Asserts why edits are refused, in the order of the checks.
@@ -268,21 +261,12 @@ fn refuses(rt: &impl Abort, alloc: Global, bench: &mut Bench) -> Result<(), Fail
 
 #[test]
 fn a_bench_refuses_edits(rt: HostRuntime) -> Result<(), Fail> {
-    let mut bench = bench_over(rt.alloc(), "PLURALS", "dog")?;
-    let done = refuses(&rt, rt.alloc(), &mut bench);
-    drop(bench);
-    done
+    with_bench!(rt, refuses: bench_over "PLURALS", "dog")
 }
 
 /// The fault of a bench that is opened over these words.
 fn fault_over(alloc: Global, words: Vec<Vec<char>>) -> Result<Option<EditFault>, Fail> {
-    match Bench::open(alloc, parse_body(alloc, "true")?, words) {
-        Ok(bench) => {
-            drop(bench);
-            Ok(None)
-        }
-        Err(fault) => Ok(Some(fault)),
-    }
+    Ok(Bench::open(alloc, parse_body(alloc, "true")?, words).err())
 }
 
 #[test]

@@ -78,6 +78,20 @@ pub(crate) fn displays<T: Display>(alloc: Global, values: &[T]) -> Result<String
     Ok(text)
 }
 
+/// The display of the fault of a result, empty if it has none. What the result has else is dropped.
+pub(crate) fn fault_text<T: Drop, E: Display + Drop>(
+    alloc: Global,
+    made: Result<T, E>,
+) -> Result<String, AllocError> {
+    match made {
+        Ok(value) => {
+            drop(value);
+            Ok(String::new(alloc))
+        }
+        Err(fault) => format!(in alloc; "{fault}"),
+    }
+}
+
 /// The field of a row with this number, from 0; an empty one if there are fewer. Fields are separated by `|`.
 pub(crate) fn field(row: &str, number: usize) -> &str {
     for (at, text) in row.split('|').enumerate() {

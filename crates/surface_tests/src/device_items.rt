@@ -5,22 +5,27 @@ ghost use Rattle.std.specs.Prelude.{◌≡◌};
 use snowbench::{Device, Sink, Source, Stop};
 use std::test::Fail;
 
-/// A source that gives one byte at a time, of a source inside it.
+/// A source that gives one byte at a time, or a sink that takes one, of the device inside it.
 #[derive(Drop)]
-pub(crate) struct Single<D> {
+pub(crate) struct ByteByByte<D> {
     inner: D,
 }
 
-impl<D> Single<D> {
-    /// Returns a source of the bytes of `inner`.
-    pub(crate) fn new(inner: D) -> Single<D>
+impl<D> ByteByByte<D> {
+    /// Returns a source of the bytes of `inner`, or a sink whose bytes go there.
+    pub(crate) fn new(inner: D) -> ByteByByte<D>
         ensures { result.inner ≡ inner }
     {
-        Single { inner }
+        ByteByByte { inner }
+    }
+
+    /// Returns the device inside.
+    pub(crate) fn into_inner(self) -> D {
+        self.inner
     }
 }
 
-impl<D: Source> Source for Single<D> {
+impl<D: Source> Source for ByteByByte<D> {
     ghost left = { λ s. D.left s.inner };
 
     ghost tally = { λ s. D.tally s.inner };
@@ -31,27 +36,7 @@ impl<D: Source> Source for Single<D> {
     }
 }
 
-/// A sink that takes one byte at a time, into a sink inside it.
-#[derive(Drop)]
-pub(crate) struct Slow<D> {
-    inner: D,
-}
-
-impl<D> Slow<D> {
-    /// Returns a sink whose bytes go to `inner`.
-    pub(crate) fn new(inner: D) -> Slow<D>
-        ensures { result.inner ≡ inner }
-    {
-        Slow { inner }
-    }
-
-    /// Returns the sink inside.
-    pub(crate) fn into_inner(self) -> D {
-        self.inner
-    }
-}
-
-impl<D: Sink> Sink for Slow<D> {
+impl<D: Sink> Sink for ByteByByte<D> {
     ghost held = { λ s. D.held s.inner };
 
     ghost tally = { λ s. D.tally s.inner };

@@ -1,6 +1,6 @@
 //! sbl_script: the three edits of a script, and why they are refused.
 
-use crate::common::{field, parse_text};
+use crate::common::{fault_text, field, parse_text};
 use sbl_script::{EditFault, Script};
 use std::alloc::{AllocError, Global};
 use std::test::Fail;
@@ -20,17 +20,6 @@ fn edit_script(
             let (routine, k) = name.split_once(' ').unwrap_or((name, ""));
             script.with_among(alloc, routine, k.parse().unwrap_or(0), text)
         }
-    }
-}
-
-/// The display of the fault of an edit, empty if it has none.
-fn fault_text(alloc: Global, made: Result<Script, EditFault>) -> Result<String, AllocError> {
-    match made {
-        Ok(script) => {
-            drop(script);
-            Ok(String::new(alloc))
-        }
-        Err(fault) => format!(in alloc; "{fault}"),
     }
 }
 

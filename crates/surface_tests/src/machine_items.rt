@@ -94,17 +94,16 @@ fn ran_text(alloc: Global, ran: &Ran) -> Result<String, AllocError> {
     }
 }
 
-/// Runs a machine. Returns what the run gives, and the count of the meter.
+/// Runs a machine over the word of a row. Returns what the run gives, and the count of the meter.
 fn run_text<S: AmongSearch>(
+    rt: &impl Abort,
     alloc: Global,
     machine: &Machine<S>,
     meter: &mut Meter,
-    word: &[char],
-    limit: u32,
-) -> Result<String, Fail>
-    requires { length word.now ≤ 255 }
-{
-    let ran: Result<Ran, RunStop> = machine.run(alloc, meter, word, limit);
+    row: &str,
+) -> Result<String, Fail> {
+    let word = word_of(rt, alloc, field(row, 1))?;
+    let ran: Result<Ran, RunStop> = machine.run(alloc, meter, &word, number(row, 2));
     let text = ran_text(alloc, &ran?)?;
     let count = meter.count();
     Ok(format!(in alloc; "{text} {count}")?)
@@ -117,9 +116,8 @@ fn run_once<S: AmongSearch>(
     machine: &Machine<S>,
     row: &str,
 ) -> Result<String, Fail> {
-    let word = word_of(rt, alloc, field(row, 1))?;
     let mut meter = Meter::new();
-    let text = run_text(alloc, machine, &mut meter, &word, number(row, 2));
+    let text = run_text(rt, alloc, machine, &mut meter, row);
     drop(meter);
     text
 }

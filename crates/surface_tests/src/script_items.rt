@@ -1,20 +1,9 @@
 //! sbl_script: trees, parsing and printing, and the faults of a script.
 
-use crate::common::{field, parse_body, parse_text};
-use sbl_script::{Among, Command, Grouping, Mode, Plain, Script, ScriptFault, ScriptItem};
+use crate::common::{fault_text, field, parse_body, parse_text};
+use sbl_script::{Among, Command, Grouping, Mode, Plain, Script, ScriptItem};
 use std::alloc::{AllocError, Global};
 use std::test::Fail;
-
-/// The display of the fault of a script, empty if it has none.
-fn fault_text(alloc: Global, made: Result<Script, ScriptFault>) -> Result<String, AllocError> {
-    match made {
-        Ok(script) => {
-            drop(script);
-            Ok(String::new(alloc))
-        }
-        Err(fault) => format!(in alloc; "{fault}"),
-    }
-}
 
 /// The canonical text of a script.
 fn print_and_drop(alloc: Global, script: Script) -> Result<String, AllocError> {

@@ -1,7 +1,7 @@
 //! snowbench: lines, sessions, checks, and why they end early.
 
 use crate::common::{PREFIXES, field_lines, parse_text};
-use crate::device_items::{Single, Slow};
+use crate::device_items::ByteByByte;
 use snowbench::{
     Device, Lines, LoadFault, ScriptFault, ServeFault, Sink, Source, WordKeys, check, load,
     load_with_keys, serve,
@@ -67,8 +67,8 @@ fn text_with_keys(alloc: Global, input: &[u8]) -> Result<Vec<u8>, Fail> {
 
 /// The same, by devices that take one byte at a time, and by so many reads.
 fn slow_text(alloc: Global, input: &[u8], most: u64) -> Result<Vec<u8>, Fail> {
-    let mut lines = Lines::with_reads(alloc, Single::new(Device::new(input)), most)?;
-    let mut writer = Slow::new(Device::new(Vec::new(alloc)));
+    let mut lines = Lines::with_reads(alloc, ByteByByte::new(Device::new(input)), most)?;
+    let mut writer = ByteByByte::new(Device::new(Vec::new(alloc)));
     let ending = serve_lines(&mut lines, &mut writer);
     with_ending(alloc, writer.into_inner().into_inner(), ending)
 }
@@ -147,13 +147,7 @@ const UNLOADED: &[(&[u8], LoadFault)] = &[
 /// The fault of an input that makes no bench.
 fn fault_of_load(alloc: Global, input: &[u8]) -> Result<Option<LoadFault>, Fail> {
     let mut lines = Lines::new(alloc, Device::new(input))?;
-    match load(&mut lines, "stem") {
-        Ok(bench) => {
-            drop(bench);
-            Ok(None)
-        }
-        Err(fault) => Ok(Some(fault)),
-    }
+    Ok(load(&mut lines, "stem").err())
 }
 
 #[test]

@@ -84,6 +84,10 @@ const FAULTS: &[(&str, &str)] = &[
         "as 'ab",
         "word 0 2;2 UnclosedString at 3;2 UnclosedString at 3;",
     ),
+    (
+        "stem /**/ ~ stem",
+        "name 0 4;1 BadCharacter at 10;1 BadCharacter at 10;",
+    ),
 ];
 
 #[test]

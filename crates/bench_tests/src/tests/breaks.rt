@@ -1,13 +1,13 @@
 //! Edits that are broken off before one of their runs, with the rows, the changes and the count of runs after each.
 
-use crate::tests::bench::{bench_of, rows_shown, words_in};
-use crate::tests::edits::changes_shown;
+use crate::tests::bench::{bench_of, words_in};
+use crate::tests::edits::gives;
 use sbl_bench::{Bench, BreakOff, EditFault};
 use sbl_script::Part;
 use std::alloc::Global;
 use std::process::Abort;
 use std::test::Fail;
-use test_support::{field, fits, number, with_line_feeds};
+use test_support::{field, number, with_line_feeds};
 
 /// Says that an edit should be broken off before the run after so many.
 #[derive(Drop)]
@@ -82,18 +82,11 @@ fn breaks_one(rt: &impl Abort, alloc: Global, bench: &mut Bench, row: &str) -> R
         runs: number(row, 1),
         said: false,
     };
-    let answer = match make_edit(alloc, bench, field(row, 0), &mut break_off)? {
-        Ok(()) => String::new(alloc),
-        Err(fault) => format!(in alloc; "{fault}")?,
-    };
-    assert!(rt; answer.as_str() == field(row, 2), "{row}: {answer}");
-    let shown = rows_shown(alloc, bench)?;
-    assert!(rt; fits(row, 3, shown.as_str()), "{row}: {shown}");
-    let shown = changes_shown(alloc, bench)?;
-    assert!(rt; fits(row, 4, shown.as_str()), "{row}: {shown}");
+    let made = make_edit(alloc, bench, field(row, 0), &mut break_off)?;
+    gives(rt, alloc, bench, made, row, 2)?;
     assert!(rt; bench.runs() == number(row, 5), "{row}");
     assert!(rt;
-        break_off.said == (answer.as_str() == "68 BrokenOff"),
+        break_off.said == (made == Err(EditFault::BrokenOff)),
         "{row}"
     );
     Ok(())

@@ -53,7 +53,7 @@ fn make_edit(alloc: Global, bench: &mut Bench, edit: &str) -> Result<Result<(), 
 }
 
 /// The changes of the last edit as `WORD STEM;WORD STEM;`, before and after.
-pub(crate) fn changes_shown(alloc: Global, bench: &Bench) -> Result<String, Fail> {
+fn changes_shown(alloc: Global, bench: &Bench) -> Result<String, Fail> {
     let mut text = String::new(alloc);
     let changes = bench.changes()?;
     for change in &changes {
@@ -69,17 +69,37 @@ pub(crate) fn changes_shown(alloc: Global, bench: &Bench) -> Result<String, Fail
     Ok(text)
 }
 
-/// Makes one edit, and asserts what it gives.
-fn edits_one(rt: &impl Abort, alloc: Global, bench: &mut Bench, row: &str) -> Result<(), Fail> {
-    let answer = match make_edit(alloc, bench, field(row, 0))? {
+/// Asserts why an edit is refused, and the rows and the changes after it, which a row has from this field on.
+pub(crate) fn gives(
+    rt: &impl Abort,
+    alloc: Global,
+    bench: &Bench,
+    made: Result<(), EditFault>,
+    row: &str,
+    from: usize,
+) -> Result<(), Fail> {
+    let answer = match made {
         Ok(()) => String::new(alloc),
         Err(fault) => format!(in alloc; "{fault}")?,
     };
-    assert!(rt; answer.as_str() == field(row, 1), "{row}");
+    assert!(rt; answer.as_str() == field(row, from), "{row}: {answer}");
     let shown = rows_shown(alloc, bench)?;
-    assert!(rt; fits(row, 2, shown.as_str()), "{row}: {shown}");
+    assert!(rt;
+        fits(row, from.saturating_add(1), shown.as_str()),
+        "{row}: {shown}"
+    );
     let shown = changes_shown(alloc, bench)?;
-    assert!(rt; fits(row, 3, shown.as_str()), "{row}: {shown}");
+    assert!(rt;
+        fits(row, from.saturating_add(2), shown.as_str()),
+        "{row}: {shown}"
+    );
+    Ok(())
+}
+
+/// Makes one edit, and asserts what it gives.
+fn edits_one(rt: &impl Abort, alloc: Global, bench: &mut Bench, row: &str) -> Result<(), Fail> {
+    let made = make_edit(alloc, bench, field(row, 0))?;
+    gives(rt, alloc, bench, made, row, 1)?;
     let runs = number(row, 4);
     assert!(rt; runs == 0 || bench.runs() == runs, "{row}");
     Ok(())

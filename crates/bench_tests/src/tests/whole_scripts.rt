@@ -72,8 +72,8 @@ fn case_of(alloc: Global, scripts: &str) -> Result<String, AllocError> {
 
 #[test]
 fn a_whole_script_runs_what_met_the_items_that_differ(rt: HostRuntime) -> Result<(), Fail> {
-    let case = case_of(rt.alloc(), SCRIPTS)?;
-    tries(&rt, rt.alloc(), case.as_str())?;
+    let alloc = rt.alloc();
+    tries(&rt, alloc, case_of(alloc, SCRIPTS)?.as_str())?;
     Ok(())
 }
 
@@ -86,7 +86,6 @@ fn a_script_that_is_too_long_changes_nothing(rt: HostRuntime) -> Result<(), Fail
         text.push(' ')?;
     }
     text.push_str("|||48 ScriptTooLong|xyb xb;ab a;xb b;q ;ad ad;|5")?;
-    let case = case_of(alloc, text.as_str())?;
-    tries(&rt, alloc, case.as_str())?;
+    tries(&rt, alloc, case_of(alloc, text.as_str())?.as_str())?;
     Ok(())
 }

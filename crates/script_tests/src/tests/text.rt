@@ -1,6 +1,6 @@
-//! Tests of the tokens of texts, and of codes. tests/cases has rows of faults, surface_tests has literals and the texts of faults.
+//! Tests of the tokens of texts, and of codes. tests/cases has rows of faults, surface_tests has the lexer, literals and the texts of faults.
 
-use sbl_text::{Coding, Lexer, Sign, Token, Value, Word, macro_value, read_codes, tokens};
+use sbl_text::{Coding, Sign, Token, Value, Word, macro_value, read_codes, tokens};
 use std::alloc::{AllocError, Global};
 use std::process::Abort;
 use std::test::Fail;
@@ -129,36 +129,6 @@ fn texts_are_cut_into_tokens(rt: HostRuntime) -> Result<(), Fail> {
     are_shown(&rt, rt.alloc(), Asked::Texts, TEXTS)?;
     are_shown(&rt, rt.alloc(), Asked::Tokens, TOKENS)?;
     are_shown(&rt, rt.alloc(), Asked::Value, VALUES)
-}
-
-/// Returns what a lexer gives in turn, so many times.
-fn nexts(alloc: Global, lexer: &mut Lexer<'_>, count: usize) -> Result<String, AllocError> {
-    let mut shown = String::new(alloc);
-    for _ in 0..count {
-        let next = match lexer.next() {
-            Ok(Some(token)) => token_text(alloc, &token)?,
-            Ok(None) => String::from_str(alloc, "none;")?,
-            Err(fault) => format!(in alloc; "{fault};")?,
-        };
-        shown.push_str(next.as_str())?;
-    }
-    Ok(shown)
-}
-
-#[test]
-fn a_fault_and_the_end_are_given_again(rt: HostRuntime) -> Result<(), Fail> {
-    let alloc = rt.alloc();
-    for (text, want) in [
-        (
-            "stem /**/ ~ stem",
-            "Name 0 4;1 BadCharacter at 10;1 BadCharacter at 10;1 BadCharacter at 10;",
-        ),
-        ("true", "Word(True) 0 4;none;none;none;"),
-    ] {
-        let mut lexer = Lexer::new(alloc, text);
-        assert_eq!(rt; nexts(alloc, &mut lexer, 4)?.as_str(), want);
-    }
-    Ok(())
 }
 
 #[test]

@@ -1,6 +1,6 @@
 //! Tests of readers and writers that fail at each of their calls, of the limit on reads, and of interruptions.
 
-use crate::verbs::{Verb, run_verb};
+use crate::calls::verbs::{Verb, run_verb};
 use sbl_io::{Device, Lines};
 use std::alloc::{AllocError, Global};
 use std::process::Abort;

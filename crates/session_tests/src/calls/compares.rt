@@ -1,5 +1,6 @@
 //! Tests of comparisons with writers in memory. tests/cases has more of them.
 
+use crate::calls::verbs::{all_write, with_ending};
 use sbl_batch::{CompareFault, CompareInput, write_comparison};
 use sbl_bench::{NoProgress, WordKeys};
 use sbl_io::Device;
@@ -39,7 +40,7 @@ fn text_of_fault(alloc: Global, fault: CompareFault) -> Result<String, AllocErro
         CompareFault::Rows(_) => "rows",
     };
     let cause = fault.cause();
-    format!(in alloc; "!{place} {cause}")
+    format!(in alloc; "{place} {cause}")
 }
 
 /// Compares the scripts of a row over its words. Each write takes four bytes.
@@ -62,19 +63,13 @@ fn compare_scripts(alloc: Global, row: &str) -> Result<Vec<u8>, Fail> {
         &mut writer,
         &mut NoProgress {},
     ) {
-        Ok(changed) => format!(in alloc; "!{changed}")?,
+        Ok(changed) => format!(in alloc; "{changed}")?,
         Err(fault) => text_of_fault(alloc, fault)?,
     };
-    let mut text = writer.into_inner().inner;
-    text.extend_from_slice(ending.as_bytes())?;
-    Ok(text)
+    Ok(with_ending(writer, ending.as_str())?)
 }
 
 #[test]
 fn a_comparison_writes_its_rows(rt: HostRuntime) -> Result<(), Fail> {
-    for row in ROWS.split('\n') {
-        let want = bytes_of(rt.alloc(), field(row, 5))?;
-        assert!(rt; compare_scripts(rt.alloc(), row)? == want, "{row}");
-    }
-    Ok(())
+    all_write!(rt, ROWS, compare_scripts, 5)
 }

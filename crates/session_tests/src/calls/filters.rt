@@ -1,6 +1,6 @@
 //! Tests of the rows of words as the words come, and of how a filter ends.
 
-use crate::verbs::{Verb, all_give};
+use crate::calls::verbs::{Verb, all_give};
 use std::test::Fail;
 
 /// Rows as of `all_give`. An empty line has no row, and a word that is there again has one. A line `.` ends the words. A filter ends at the

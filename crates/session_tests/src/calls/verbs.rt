@@ -5,7 +5,8 @@ use sbl_input::{LoadFault, load, read_script};
 use sbl_io::{Device, Lines};
 use sbl_script::Script;
 use sbl_sessions::serve;
-use std::alloc::Global;
+use std::alloc::{AllocError, Global};
+use std::fmt::Display;
 use std::process::Abort;
 use std::test::Fail;
 use test_support::{Pieces, bytes_of, field, in_pieces, number, with_scripts};
@@ -22,6 +23,39 @@ pub(crate) enum Verb {
     Session,
     Filter,
     FilterToEnd,
+}
+
+/// Asserts what is written for each row, which is in the field with this number.
+macro_rules! all_write {
+    ($rt:ident, $rows:expr, $written:ident, $want:literal) => {{
+        for row in $rows.split('\n') {
+            let want = bytes_of($rt.alloc(), field(row, $want))?;
+            assert!($rt; $written($rt.alloc(), row)? == want, "{row}");
+        }
+        Ok(())
+    }};
+}
+
+pub(crate) use all_write;
+
+/// Returns what a writer has, and after it `!` and this text.
+pub(crate) fn with_ending(writer: Writer, ending: &str) -> Result<Vec<u8>, AllocError> {
+    let mut text = writer.into_inner().inner;
+    text.push(b'!')?;
+    text.extend_from_slice(ending.as_bytes())?;
+    Ok(text)
+}
+
+/// Returns what a writer has, and after it `!` and the fault, if there is one.
+pub(crate) fn with_fault<E: Display + Drop>(
+    alloc: Global,
+    writer: Writer,
+    ending: Result<(), E>,
+) -> Result<Vec<u8>, AllocError> {
+    match ending {
+        Ok(()) => Ok(writer.into_inner().inner),
+        Err(fault) => with_ending(writer, format!(in alloc; "{fault}")?.as_str()),
+    }
 }
 
 /// Runs a session.
@@ -65,17 +99,12 @@ pub(crate) fn run_verb(
             Ok(()) => Ok(()),
             Err(WordFault { line: 0, fault }) => Err(fault),
             Err(WordFault { line, fault }) => {
-                let mut text = writer.into_inner().inner;
-                text.extend_from_slice(format!(in alloc; "!{line}:{fault}")?.as_bytes())?;
-                return Ok(text);
+                let ending = format!(in alloc; "{line}:{fault}")?;
+                return Ok(with_ending(writer, ending.as_str())?);
             }
         },
     };
-    let mut text = writer.into_inner().inner;
-    if let Err(fault) = ending {
-        text.extend_from_slice(format!(in alloc; "!{fault}")?.as_bytes())?;
-    }
-    Ok(text)
+    Ok(with_fault(alloc, writer, ending)?)
 }
 
 /// Asserts what is written for a row, and the line after what was read (empty if there is none).

@@ -1,6 +1,6 @@
 //! Tests of sessions whose input is cut after each of its bytes, or read in pieces of every size.
 
-use crate::benches::{Session, leaves};
+use crate::calls::benches::{Session, leaves};
 use std::alloc::{AllocError, Global};
 use std::process::Abort;
 use std::test::Fail;

@@ -1,10 +1,10 @@
 //! Tests of the lines of a reader, and of its faults.
 
+use crate::calls::verbs::all_write;
 use sbl_io::{Device, LineFault, Lines};
 use std::alloc::Global;
-use std::process::Abort;
 use std::test::Fail;
-use test_support::{Pieces, bytes_of, field, in_pieces, number};
+use test_support::{bytes_of, field, in_pieces, number};
 
 /// An input in the letters of `bytes_of`; the bytes of a read, the read that fails, counted from 1 (empty: none), and the interruptions before
 /// each read; and the first four answers: a line and `;`, `.` at the end, `!` for a fault of the reader, `?` for a line that is too long. Lines
@@ -24,8 +24,11 @@ ab|2||1001|!!!!
 ⅳ|65536|||????";
 
 /// Returns the first four answers of a reader's lines.
-fn answers(alloc: Global, reader: Device<Pieces<&[u8]>>) -> Result<Vec<u8>, Fail> {
-    let mut lines = Lines::new(alloc, reader)?;
+fn answers(alloc: Global, row: &str) -> Result<Vec<u8>, Fail> {
+    let input = bytes_of(alloc, field(row, 0))?;
+    let piece = (number(row, 1) as usize).max(1);
+    let reader = in_pieces(input.as_slice(), piece, number(row, 2), number(row, 3));
+    let mut lines = Lines::new(alloc, Device::new(reader))?;
     let mut text = Vec::new(alloc);
     for _ in 0..4 {
         let answer = lines.next_line();
@@ -42,22 +45,7 @@ fn answers(alloc: Global, reader: Device<Pieces<&[u8]>>) -> Result<Vec<u8>, Fail
     Ok(text)
 }
 
-/// Asserts the answers of a row.
-fn gives_lines(rt: &impl Abort, alloc: Global, row: &str) -> Result<(), Fail> {
-    let input = bytes_of(alloc, field(row, 0))?;
-    let piece = number(row, 1) as usize;
-    assert!(rt; 0 < piece);
-    let reader = in_pieces(input.as_slice(), piece, number(row, 2), number(row, 3));
-    let text = answers(alloc, Device::new(reader))?;
-    let want = bytes_of(alloc, field(row, 4))?;
-    assert!(rt; text == want, "{row}");
-    Ok(())
-}
-
 #[test]
 fn lines_end_or_have_a_fault(rt: HostRuntime) -> Result<(), Fail> {
-    for row in ROWS.split('\n') {
-        gives_lines(&rt, rt.alloc(), row)?;
-    }
-    Ok(())
+    all_write!(rt, ROWS, answers, 4)
 }

@@ -1,6 +1,6 @@
 //! Tests of whole sessions, what they write and how they end. tests/cases has more of them.
 
-use crate::verbs::{Verb, all_give};
+use crate::calls::verbs::{Verb, all_give};
 use sbl_bench::EditFault::Full;
 use sbl_input::LoadFault::{Input, Open, Script};
 use sbl_io::ServeFault::{Cut, LineTooLong, NotText, OutOfMemory, Read, Write};

@@ -1,6 +1,6 @@
 //! Tests of what a bench holds after a session has ended, at the end of its input or by a fault. The bench is looked at by a second session.
 
-use crate::verbs::{Reader, Writer};
+use crate::calls::verbs::{Reader, Writer, with_fault};
 use sbl_bench::Bench;
 use sbl_input::load;
 use sbl_io::{Device, Lines};
@@ -36,11 +36,7 @@ fn replies(
     mut writer: Writer,
 ) -> Result<Vec<u8>, Fail> {
     let ending = serve(bench, lines, &mut writer);
-    let mut text = writer.into_inner().inner;
-    if let Err(fault) = ending {
-        text.extend_from_slice(format!(in alloc; "!{fault}")?.as_bytes())?;
-    }
-    Ok(text)
+    Ok(with_fault(alloc, writer, ending)?)
 }
 
 /// Returns the replies of a bench to commands, by devices that never stop.

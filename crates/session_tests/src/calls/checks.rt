@@ -1,5 +1,6 @@
 //! Tests of checks with writers in memory. tests/cases has more of them.
 
+use crate::calls::verbs::{all_write, with_ending};
 use sbl_batch::check;
 use sbl_io::Device;
 use sbl_script::Script;
@@ -35,19 +36,13 @@ fn check_lists(alloc: Global, row: &str) -> Result<Vec<u8>, Fail> {
     let ending = check(alloc, &script, &words, &expected, &mut writer);
     script.discard();
     let ending = match ending {
-        Ok(differences) => format!(in alloc; "!{differences}")?,
-        Err(fault) => format!(in alloc; "!{fault}")?,
+        Ok(differences) => format!(in alloc; "{differences}")?,
+        Err(fault) => format!(in alloc; "{fault}")?,
     };
-    let mut text = writer.into_inner().inner;
-    text.extend_from_slice(ending.as_bytes())?;
-    Ok(text)
+    Ok(with_ending(writer, ending.as_str())?)
 }
 
 #[test]
 fn a_check_writes_a_row_for_each_difference(rt: HostRuntime) -> Result<(), Fail> {
-    for row in ROWS.split('\n') {
-        let want = bytes_of(rt.alloc(), field(row, 4))?;
-        assert!(rt; check_lists(rt.alloc(), row)? == want, "{row}");
-    }
-    Ok(())
+    all_write!(rt, ROWS, check_lists, 4)
 }
