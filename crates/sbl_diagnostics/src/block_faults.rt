@@ -155,12 +155,18 @@ fn fault_in_part<'x>(
     };
     let begin = offset_in_block(alloc, cut.before, rest.as_bytes(), cut.after, fault)?;
     let begin = begin.map(|offset| offset.saturating_add(skipped));
-    Ok(Some(fault_text(alloc, title, faulty_of(typed, part, fault), begin)?))
+    Ok(Some(fault_text(title, faulty_of(alloc, typed, part, fault), begin)?))
 }
 
 /// Returns the block as a text with this fault.
-fn faulty_of<'a>(typed: TypedBlock<'a>, part: Part<'a>, fault: ScriptFault) -> Faulty<'a> {
+fn faulty_of<'a>(
+    alloc: Global,
+    typed: TypedBlock<'a>,
+    part: Part<'a>,
+    fault: ScriptFault,
+) -> Faulty<'a> {
     Faulty {
+        alloc,
         text: typed.block,
         fault,
         part: Some(part),
@@ -184,7 +190,7 @@ pub fn part_text<'x>(
     let Ok(text) = str::from_utf8(typed.block) else {
         let faulty = faulty_of(typed, part, ScriptFault::NotUtf8);
         let begin = offset_of_byte(typed.block);
-        return Ok(Some(fault_text(alloc, title, faulty, begin)?));
+        return Ok(Some(fault_text(title, faulty, begin)?));
     };
     let skipped = if typed.takes_heads {
         head_end(&first_tokens(alloc, text)?, part)

@@ -83,17 +83,13 @@ fn is_of_comment(fault: ScriptFault) -> bool {
 
 /// Appends that the place is after the end of a comment that has another one inside it, if that is so and a `*/` is left over, or that
 /// a `*/` ends no comment. Returns whether it did.
-pub(crate) fn push_nested(
-    alloc: Global,
-    shown: &mut String,
-    place: Place<'_>,
-) -> Result<bool, AllocError> {
+pub(crate) fn push_nested(shown: &mut String, place: Place<'_>) -> Result<bool, AllocError> {
     let Place { faulty, spot } = place;
     let rest = faulty.text.get(spot.begin..).unwrap_or(&[]);
     if !is_of_comment(faulty.fault) || !has_end(rest) {
         return Ok(false);
     }
-    let Some(tokens) = tokens_before(alloc, faulty.text, spot.begin) else {
+    let Some(tokens) = tokens_before(faulty.alloc, faulty.text, spot.begin) else {
         return Ok(false);
     };
     let Some(begin) = nested_before(faulty.text, &tokens, spot.begin) else {
@@ -104,7 +100,7 @@ pub(crate) fn push_nested(
         return Ok(true);
     };
     let Position { line, column } = position_of(faulty.text, begin);
-    let text = format!(in alloc;
+    let text = format!(in faulty.alloc;
         "comments do not nest: the one that begins at {line}:{column} ends at its first */, before this"
     )?;
     shown.push_str(text.as_str())?;

@@ -13,17 +13,15 @@ use std::alloc::{AllocError, Global};
 pub(crate) const NAMES: &str = "A name is an ASCII letter, and then ASCII letters, digits and _.";
 
 /// Appends how numbers are compared, if a word for a number is at a place of commands.
-pub(crate) fn push_number(
-    alloc: Global,
-    shown: &mut String,
-    site: Site<'_>,
-) -> Result<bool, AllocError> {
+pub(crate) fn push_number(shown: &mut String, site: Site<'_>) -> Result<bool, AllocError> {
     let token = site.spot.token;
     match site.spot.kind {
         Some(Kind::Word(word)) if is_constant(word) => {
             push_text(
                 shown,
-                format!(in alloc; "Numbers are compared in $( .. ), as in $( {token} > 2 ).")?,
+                format!(in site.faulty.alloc;
+                    "Numbers are compared in $( .. ), as in $( {token} > 2 )."
+                )?,
             )
         }
         Some(Kind::Word(Word::LenOf)) => {
@@ -42,8 +40,8 @@ fn setting_of(alloc: Global, name: &str) -> Result<String, AllocError> {
 }
 
 /// Returns whether `=` is at the place, and `true` or `false` after it.
-fn sets_truth(alloc: Global, site: Site<'_>) -> bool {
-    match site.next_kinds(alloc) {
+fn sets_truth(site: Site<'_>) -> bool {
+    match site.next_kinds() {
         (Some(next), _) => site.operator() == Some(Sign::Equals) && is_truth(next),
         _ => false,
     }
@@ -55,11 +53,7 @@ fn is_truth(kind: Kind) -> bool {
 }
 
 /// Appends how a boolean is set if `true` or `false` is at the place, and `=` and a name are before it.
-pub(crate) fn push_truth(
-    alloc: Global,
-    shown: &mut String,
-    site: Site<'_>,
-) -> Result<bool, AllocError> {
+pub(crate) fn push_truth(shown: &mut String, site: Site<'_>) -> Result<bool, AllocError> {
     let (Some(prior), Some(kind)) = (site.prior, site.spot.kind) else {
         return Ok(false);
     };
@@ -69,13 +63,12 @@ pub(crate) fn push_truth(
     {
         return Ok(false);
     }
-    let name = cut(alloc, prior.text)?;
-    push_text(shown, setting_of(alloc, name.as_str())?)
+    let name = cut(site.faulty.alloc, prior.text)?;
+    push_text(shown, setting_of(site.faulty.alloc, name.as_str())?)
 }
 
 /// Appends how the name before a sign is set or compared.
 pub(crate) fn push_operator(
-    alloc: Global,
     shown: &mut String,
     site: Site<'_>,
     role: Option<Symbol>,
@@ -94,22 +87,24 @@ pub(crate) fn push_operator(
     };
     let kind = match declaration_of(declared, name) {
         Some(declared) => declared.word,
-        None if sets_truth(alloc, site) => Word::Booleans,
+        None if sets_truth(site) => Word::Booleans,
         None => Word::Integers,
     };
     let is_command = match role {
         Some(symbol) => symbol.has_command(),
         None => false,
     };
-    let name = cut(alloc, name)?;
+    let name = cut(site.faulty.alloc, name)?;
     let sentence = match word {
-        Kind::Word(Word::Set | Word::Unset) => setting_of(alloc, name.as_str())?,
-        _ if is_command && kind == Word::Booleans => setting_of(alloc, name.as_str())?,
-        Kind::Word(Word::SetMark) => format!(in alloc;
+        Kind::Word(Word::Set | Word::Unset) => setting_of(site.faulty.alloc, name.as_str())?,
+        _ if is_command && kind == Word::Booleans => setting_of(site.faulty.alloc, name.as_str())?,
+        Kind::Word(Word::SetMark) => format!(in site.faulty.alloc;
             "setmark {name} sets {name} to the cursor, ${name} = .. to another number."
         )?,
         _ if is_command && kind == Word::Integers => {
-            format!(in alloc; "Before the name of an integer comes $: ${name} {sign_text} ..")?
+            format!(in site.faulty.alloc;
+                "Before the name of an integer comes $: ${name} {sign_text} .."
+            )?
         }
         _ => return Ok(false),
     };
@@ -118,7 +113,6 @@ pub(crate) fn push_operator(
 
 /// Appends what comes in parentheses of commands.
 pub(crate) fn push_rows(
-    alloc: Global,
     shown: &mut String,
     site: Site<'_>,
     outlook: &Outlook,
@@ -126,7 +120,7 @@ pub(crate) fn push_rows(
     if site.operator().is_some() {
         return Ok(false);
     }
-    if push_number(alloc, shown, site)? {
+    if push_number(shown, site)? {
         return Ok(true);
     }
     if site.is_at(Word::For) {
@@ -138,7 +132,10 @@ pub(crate) fn push_rows(
     if !outlook.offers(Symbol::Joiners) {
         if site.is_at_joiner() {
             let word = site.spot.token;
-            return push_text(shown, format!(in alloc; "Before {word} comes a command.")?);
+            return push_text(
+                shown,
+                format!(in site.faulty.alloc; "Before {word} comes a command.")?,
+            );
         }
         return push_advice(shown, "After ( comes a command or ).");
     }
@@ -149,17 +146,13 @@ pub(crate) fn push_rows(
 }
 
 /// Appends what comes in the parentheses of a declaration.
-pub(crate) fn push_names(
-    alloc: Global,
-    shown: &mut String,
-    site: Site<'_>,
-) -> Result<bool, AllocError> {
+pub(crate) fn push_names(shown: &mut String, site: Site<'_>) -> Result<bool, AllocError> {
     match site.spot.kind {
         Some(Kind::Word(_)) => {
             let word = site.spot.token;
             push_text(
                 shown,
-                format!(in alloc; "{word} is a reserved word: take another name.")?,
+                format!(in site.faulty.alloc; "{word} is a reserved word: take another name.")?,
             )
         }
         Some(Kind::Number | Kind::Sign(Sign::Minus)) => push_advice(shown, NAMES),
@@ -168,32 +161,24 @@ pub(crate) fn push_names(
 }
 
 /// Appends what comes in parentheses of an expression.
-pub(crate) fn push_sums(
-    alloc: Global,
-    shown: &mut String,
-    site: Site<'_>,
-) -> Result<bool, AllocError> {
+pub(crate) fn push_sums(shown: &mut String, site: Site<'_>) -> Result<bool, AllocError> {
     if site.is_at_joiner() {
         let word = site.spot.token;
         return push_text(
             shown,
-            format!(in alloc; "{word} joins commands: $( a > b ) {word} $( c > d ).")?,
+            format!(in site.faulty.alloc; "{word} joins commands: $( a > b ) {word} $( c > d ).")?,
         );
     }
     push_advice(shown, "Here comes +, -, *, / or ).")
 }
 
 /// Appends that a `define` is missing before the token at the place, if `as` follows it.
-pub(crate) fn push_missing_define(
-    alloc: Global,
-    shown: &mut String,
-    site: Site<'_>,
-) -> Result<bool, AllocError> {
+pub(crate) fn push_missing_define(shown: &mut String, site: Site<'_>) -> Result<bool, AllocError> {
     let rest = site.faulty.text.get(site.spot.begin..).unwrap_or(&[]);
     let Ok(rest) = str::from_utf8(rest) else {
         return Ok(false);
     };
-    let mut lexer = Lexer::new(alloc, rest);
+    let mut lexer = Lexer::new(site.faulty.alloc, rest);
     let Ok(Some(name)) = lexer.next() else {
         return Ok(false);
     };
@@ -203,16 +188,16 @@ pub(crate) fn push_missing_define(
     if name.kind != Kind::Name || next.kind != Kind::Word(Word::As) {
         return Ok(false);
     }
-    let name = cut(alloc, name.text)?;
+    let name = cut(site.faulty.alloc, name.text)?;
     push_text(
         shown,
-        format!(in alloc; "Before {name} define is missing.")?,
+        format!(in site.faulty.alloc; "Before {name} define is missing.")?,
     )
 }
 
 /// Returns whether after the token at the place comes `(`, and then a word that begins an item.
-fn holds_items(alloc: Global, site: Site<'_>) -> bool {
-    let (next, second) = site.next_kinds(alloc);
+fn holds_items(site: Site<'_>) -> bool {
+    let (next, second) = site.next_kinds();
     next == Some(Kind::Sign(Sign::Open)) && is_item(second)
 }
 
@@ -226,12 +211,11 @@ pub(crate) fn is_item(kind: Option<Kind>) -> bool {
 
 /// Appends which of `backwards` and `backwardmode` is meant if the other one, or `backward`, is at the place. Returns whether it did.
 pub(crate) fn push_mode(
-    alloc: Global,
     shown: &mut String,
     site: Site<'_>,
     outlook: &Outlook,
 ) -> Result<bool, AllocError> {
-    let has_items = holds_items(alloc, site);
+    let has_items = holds_items(site);
     let is_backwards = site.is_at(Word::Backwards) || site.spot.token == "backward";
     if is_backwards && has_items && outlook.offers(Symbol::Items) {
         return push_advice(
@@ -249,12 +233,8 @@ pub(crate) fn push_mode(
 }
 
 /// Appends what comes among the items of a script.
-pub(crate) fn push_items(
-    alloc: Global,
-    shown: &mut String,
-    site: Site<'_>,
-) -> Result<bool, AllocError> {
-    if push_missing_define(alloc, shown, site)? {
+pub(crate) fn push_items(shown: &mut String, site: Site<'_>) -> Result<bool, AllocError> {
+    if push_missing_define(shown, site)? {
         return Ok(true);
     }
     if site.is_at(Word::Backwards) {
@@ -271,13 +251,14 @@ pub(crate) fn push_items(
     };
     push_text(
         shown,
-        format!(in alloc; "stringescapes takes the two characters after it, here {characters}.")?,
+        format!(in site.faulty.alloc;
+            "stringescapes takes the two characters after it, here {characters}."
+        )?,
     )
 }
 
 /// Appends what comes after a term of a grouping.
 pub(crate) fn push_terms(
-    alloc: Global,
     shown: &mut String,
     site: Site<'_>,
     tokens: &[Token<'_>],
@@ -286,12 +267,12 @@ pub(crate) fn push_terms(
     if site.faulty.part.is_some() && !matches!(site.spot.kind, Some(Kind::Literal | Kind::Name)) {
         return Ok(false);
     }
-    if site.faulty.part.is_none() && push_missing_define(alloc, shown, site)? {
+    if site.faulty.part.is_none() && push_missing_define(shown, site)? {
         return Ok(true);
     }
     match declaration_of(declared, last_definition(tokens).name) {
         Some(name) if matches!(name.word, Word::Routines | Word::Externals) => {
-            return push_form(alloc, shown, name);
+            return push_form(site.faulty.alloc, shown, name);
         }
         _ => {}
     }
@@ -337,30 +318,29 @@ pub(crate) fn last_definition<'a>(tokens: &[Token<'a>]) -> Definition<'a> {
 
 /// Appends what comes after the body of a routine.
 pub(crate) fn push_body(
-    alloc: Global,
     shown: &mut String,
     site: Site<'_>,
     definition: Definition<'_>,
 ) -> Result<bool, AllocError> {
-    if push_foreign(alloc, shown, site)? {
+    if push_foreign(shown, site)? {
         return Ok(true);
     }
     if site.faulty.part.is_some() || site.operator().is_some() {
         return Ok(false);
     }
-    if push_missing_define(alloc, shown, site)? {
+    if push_missing_define(shown, site)? {
         return Ok(true);
     }
     let Definition { name, is_closed } = definition;
-    let name = cut(alloc, name)?;
+    let name = cut(site.faulty.alloc, name)?;
     let sentence = if !site.has_command() {
-        format!(in alloc;
+        format!(in site.faulty.alloc;
             "The body of a routine is one command, or several with or or and between them."
         )?
     } else if is_closed {
-        format!(in alloc; "The body of {name} ends at the ) before this.")?
+        format!(in site.faulty.alloc; "The body of {name} ends at the ) before this.")?
     } else {
-        format!(in alloc;
+        format!(in site.faulty.alloc;
             "The body of a routine is one command: put several in parentheses, define {name} as ( .. )."
         )?
     };
@@ -368,12 +348,12 @@ pub(crate) fn push_body(
 }
 
 /// Appends what to write for the name before the place, if it is a word of other languages and not declared.
-fn push_foreign(alloc: Global, shown: &mut String, site: Site<'_>) -> Result<bool, AllocError> {
+fn push_foreign(shown: &mut String, site: Site<'_>) -> Result<bool, AllocError> {
     let Some(last) = site.last else {
         return Ok(false);
     };
-    let declared = declared_in(alloc, site.faulty.script)?;
-    match advice_on(alloc, site.faulty.script, last.text) {
+    let declared = declared_in(site.faulty.alloc, site.faulty.script)?;
+    match advice_on(site.faulty.alloc, site.faulty.script, last.text) {
         Some(advice) if declaration_of(&declared, last.text).is_none() => {
             push_advice(shown, advice)
         }

@@ -2,7 +2,7 @@
 
 use crate::characters::{cut, push_cut};
 use crate::declarations::{declaration_of, declared_in};
-use crate::sentences::{Faulty, Place, tokens_before};
+use crate::sentences::{Faulty, Place, tokens_of};
 use sbl_script::Part;
 use sbl_text::{Kind, Sign, Token, Word};
 use std::alloc::{AllocError, Global};
@@ -51,10 +51,7 @@ fn definition_in(tokens: &[Token<'_>], name: &str) -> Option<Definition> {
 
 /// Returns the definition of this name in a script, if there is one and the tokens of the script can be read.
 fn definition_of(alloc: Global, script: &[u8], name: &str) -> Option<Definition> {
-    match tokens_before(alloc, script, script.len()) {
-        Some(tokens) => definition_in(&tokens, name),
-        None => None,
-    }
+    definition_in(&tokens_of(alloc, script), name)
 }
 
 /// Returns the name whose definition is the last that begins in these tokens, if one does.
@@ -71,36 +68,29 @@ fn last_defined<'a>(tokens: &[Token<'a>]) -> Option<&'a str> {
 }
 
 /// Returns whether the place of a fault is inside the definition of the name that is there.
-fn is_in_itself(alloc: Global, place: Place<'_>) -> bool {
+fn is_in_itself(place: Place<'_>) -> bool {
     let Place { faulty, spot } = place;
     match faulty.part {
         Some(Part::Grouping(name)) => name == spot.token,
         Some(_) => false,
-        None => match tokens_before(alloc, faulty.text, spot.begin) {
-            Some(before) => last_defined(&before) == Some(spot.token),
-            None => false,
-        },
+        None => last_defined(&place.tokens_before()) == Some(spot.token),
     }
 }
 
 /// Appends that a name has no definition, or has none that counts at this place, and what to do.
-pub(crate) fn push_undefined(
-    alloc: Global,
-    shown: &mut String,
-    place: Place<'_>,
-) -> Result<(), AllocError> {
+pub(crate) fn push_undefined(shown: &mut String, place: Place<'_>) -> Result<(), AllocError> {
     let Place { faulty, spot } = place;
-    if is_in_itself(alloc, place) {
+    if is_in_itself(place) {
         return shown.push_str(" cannot be part of its own definition");
     }
-    if definition_of(alloc, faulty.script, spot.token).is_some() {
+    if definition_of(faulty.alloc, faulty.script, spot.token).is_some() {
         return shown.push_str(
             " is defined after this grouping: a grouping can use only those that are defined before it",
         );
     }
     shown.push_str(" is declared, but not defined: add define ")?;
     push_cut(shown, spot.token)?;
-    let declared = declared_in(alloc, faulty.script)?;
+    let declared = declared_in(faulty.alloc, faulty.script)?;
     shown.push_str(match declaration_of(&declared, spot.token) {
         Some(declaration) if declaration.word == Word::Groupings => " '..'",
         _ => " as ..",
@@ -123,31 +113,21 @@ fn end_in_terms(tokens: &[Token<'_>]) -> bool {
 }
 
 /// Returns whether a name at this place is one of the terms of a grouping, so that it may be meant as characters.
-pub(crate) fn is_at_terms(alloc: Global, place: Place<'_>) -> bool {
+pub(crate) fn is_at_terms(place: Place<'_>) -> bool {
     let Place { faulty, spot } = place;
     match faulty.part {
         Some(Part::Grouping(_)) => true,
         Some(_) => false,
-        None => match tokens_before(alloc, faulty.text, spot.begin) {
-            Some(before) => end_in_terms(&before),
-            None => false,
-        },
+        None => end_in_terms(&place.tokens_before()),
     }
 }
 
 /// Appends that a name is used in another mode than it is defined in, and what to do.
-pub(crate) fn push_wrong_mode(
-    alloc: Global,
-    shown: &mut String,
-    place: Place<'_>,
-) -> Result<(), AllocError> {
+pub(crate) fn push_wrong_mode(shown: &mut String, place: Place<'_>) -> Result<(), AllocError> {
     let Place { faulty, spot } = place;
-    let before = tokens_before(alloc, faulty.text, spot.begin);
-    let is_condition = match &before {
-        Some(before) => matches!(before.last(), Some(token) if token.kind == Kind::Literal),
-        None => false,
-    };
-    match definition_of(alloc, faulty.script, spot.token) {
+    let before = place.tokens_before();
+    let is_condition = matches!(before.last(), Some(token) if token.kind == Kind::Literal);
+    match definition_of(faulty.alloc, faulty.script, spot.token) {
         Some(Definition::Forward) => shown.push_str(
             " is defined in forward mode, but used in backward mode: move its define into backwardmode. If forward mode uses it, too, define another one there",
         ),
@@ -165,17 +145,13 @@ pub(crate) fn push_wrong_mode(
 }
 
 /// Appends that an external is declared, but has no definition that a run can begin with, and what to do.
-pub(crate) fn push_no_definition(
-    alloc: Global,
-    shown: &mut String,
-    faulty: Faulty<'_>,
-) -> Result<(), AllocError> {
-    let wanted = cut(alloc, faulty.external)?;
-    let text = match definition_of(alloc, faulty.script, faulty.external) {
-        Some(Definition::Backward) => format!(in alloc;
+pub(crate) fn push_no_definition(shown: &mut String, faulty: Faulty<'_>) -> Result<(), AllocError> {
+    let wanted = cut(faulty.alloc, faulty.external)?;
+    let text = match definition_of(faulty.alloc, faulty.script, faulty.external) {
+        Some(Definition::Backward) => format!(in faulty.alloc;
             "{wanted} is defined in backward mode, but a run begins in forward mode: outside of backwardmode write define {wanted} as backwards ( .. )"
         )?,
-        _ => format!(in alloc;
+        _ => format!(in faulty.alloc;
             "{wanted} is declared in externals, but not defined: add define {wanted} as .."
         )?,
     };

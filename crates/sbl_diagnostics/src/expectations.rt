@@ -49,30 +49,27 @@ fn what_follows(required: Symbol, last: Kind) -> Option<&'static str> {
 }
 
 /// Appends what comes after the token before the place.
-fn push_follower(
-    alloc: Global,
-    shown: &mut String,
-    site: Site<'_>,
-    required: Symbol,
-) -> Result<bool, AllocError> {
+fn push_follower(shown: &mut String, site: Site<'_>, required: Symbol) -> Result<bool, AllocError> {
     let Some(last) = site.last else {
         return Ok(false);
     };
     let Some(what) = what_follows(required, last.kind) else {
         return Ok(false);
     };
-    let after = cut(alloc, last.text)?;
+    let after = cut(site.faulty.alloc, last.text)?;
     let is_inside = required == Symbol::Factor && last.kind == Kind::Sign(Sign::Open);
     let sentence = match (site.prior, site.spot.kind) {
         (Some(prior), _) if is_inside => {
-            let before = cut(alloc, prior.text)?;
-            format!(in alloc; "After {before} ( comes {what}.")?
+            let before = cut(site.faulty.alloc, prior.text)?;
+            format!(in site.faulty.alloc; "After {before} ( comes {what}.")?
         }
         (_, Some(Kind::Word(word))) if required == Symbol::Name && !begins_item(word) => {
             let token = site.spot.token;
-            format!(in alloc; "After {after} comes {what}, and {token} is a reserved word.")?
+            format!(in site.faulty.alloc;
+                "After {after} comes {what}, and {token} is a reserved word."
+            )?
         }
-        _ => format!(in alloc; "After {after} comes {what}.")?,
+        _ => format!(in site.faulty.alloc; "After {after} comes {what}.")?,
     };
     push_advice(shown, sentence.as_str())
 }
@@ -100,57 +97,60 @@ fn push_definition(
 }
 
 /// Appends what comes after the name of a macro, or after `hex` or `decimal`.
-fn push_macro(alloc: Global, shown: &mut String, site: Site<'_>) -> Result<bool, AllocError> {
+fn push_macro(shown: &mut String, site: Site<'_>) -> Result<bool, AllocError> {
     match site.last_of(Kind::MacroName) {
         Some(name) => {
-            let name = cut(alloc, name)?;
+            let name = cut(site.faulty.alloc, name)?;
             push_text(
                 shown,
-                format!(in alloc;
+                format!(in site.faulty.alloc;
                     "After the name of the macro, {name}, comes a literal, or hex or decimal and a literal."
                 )?,
             )
         }
-        None => push_follower(alloc, shown, site, Symbol::MacroLiteral),
+        None => push_follower(shown, site, Symbol::MacroLiteral),
     }
 }
 
 /// Appends what comes after a word that has a number after it in place of a command.
-fn push_loop(alloc: Global, shown: &mut String, site: Site<'_>) -> Result<bool, AllocError> {
+fn push_loop(shown: &mut String, site: Site<'_>) -> Result<bool, AllocError> {
     let Some(last) = site.last else {
         return Ok(false);
     };
-    let after = cut(alloc, last.text)?;
+    let after = cut(site.faulty.alloc, last.text)?;
     push_text(
         shown,
-        format!(in alloc; "After {after} comes a command, after loop a number: loop 3 next.")?,
+        format!(in site.faulty.alloc;
+            "After {after} comes a command, after loop a number: loop 3 next."
+        )?,
     )
 }
 
 /// Appends what comes after `->`.
-fn push_arrow(alloc: Global, shown: &mut String, site: Site<'_>) -> Result<bool, AllocError> {
+fn push_arrow(shown: &mut String, site: Site<'_>) -> Result<bool, AllocError> {
     if site.spot.kind != Some(Kind::Literal) {
-        return push_follower(alloc, shown, site, Symbol::Name);
+        return push_follower(shown, site, Symbol::Name);
     }
-    let literal = cut(alloc, site.spot.token)?;
+    let literal = cut(site.faulty.alloc, site.spot.token)?;
     push_text(
         shown,
-        format!(in alloc; "After -> comes the name of a string; <- {literal} replaces the slice.")?,
+        format!(in site.faulty.alloc;
+            "After -> comes the name of a string; <- {literal} replaces the slice."
+        )?,
     )
 }
 
 /// Appends which symbol has to come.
 fn push_required(
-    alloc: Global,
     shown: &mut String,
     site: Site<'_>,
     required: Symbol,
     declared: &[DeclaredName<'_>],
 ) -> Result<bool, AllocError> {
     match required {
-        Symbol::Command if push_number(alloc, shown, site)? => Ok(true),
-        Symbol::Factor if push_truth(alloc, shown, site)? => Ok(true),
-        Symbol::Command if site.spot.kind == Some(Kind::Number) => push_loop(alloc, shown, site),
+        Symbol::Command if push_number(shown, site)? => Ok(true),
+        Symbol::Factor if push_truth(shown, site)? => Ok(true),
+        Symbol::Command if site.spot.kind == Some(Kind::Number) => push_loop(shown, site),
         Symbol::LoopBody => {
             push_advice(
                 shown,
@@ -171,17 +171,16 @@ fn push_required(
             push_advice(shown, "Two numbers are compared here, as in $( a > b ).")
         }
         Symbol::Definition => push_definition(shown, site, declared),
-        Symbol::MacroLiteral => push_macro(alloc, shown, site),
+        Symbol::MacroLiteral => push_macro(shown, site),
         Symbol::Name if site.last_kind() == Some(Kind::Sign(Sign::Arrow)) => {
-            push_arrow(alloc, shown, site)
+            push_arrow(shown, site)
         }
-        _ => push_follower(alloc, shown, site, required),
+        _ => push_follower(shown, site, required),
     }
 }
 
 /// Appends what comes in the construct that the place is in.
 fn push_inside(
-    alloc: Global,
     shown: &mut String,
     site: Site<'_>,
     outlook: &Outlook,
@@ -189,19 +188,19 @@ fn push_inside(
     declared: &[DeclaredName<'_>],
 ) -> Result<bool, AllocError> {
     if outlook.offers(Symbol::Names) {
-        push_names(alloc, shown, site)
+        push_names(shown, site)
     } else if outlook.offers(Symbol::Groups) || outlook.offers(Symbol::Entries) {
         push_advice(shown, AMONGS)
     } else if outlook.offers(Symbol::Rows) {
-        push_rows(alloc, shown, site, outlook)
+        push_rows(shown, site, outlook)
     } else if outlook.offers(Symbol::Joiners) {
-        push_body(alloc, shown, site, last_definition(tokens))
+        push_body(shown, site, last_definition(tokens))
     } else if outlook.offers(Symbol::Terms) {
-        push_terms(alloc, shown, site, tokens, declared)
+        push_terms(shown, site, tokens, declared)
     } else if outlook.offers(Symbol::Items) {
-        push_items(alloc, shown, site)
+        push_items(shown, site)
     } else if outlook.offers(Symbol::Sums) {
-        push_sums(alloc, shown, site)
+        push_sums(shown, site)
     } else {
         Ok(false)
     }
@@ -210,39 +209,33 @@ fn push_inside(
 /// Appends what can come at the place of a token that cannot come after these tokens, or at the end of the text. Returns whether it
 /// did: it does not if no sentence is sure to fit.
 pub(crate) fn push_expectation(
-    alloc: Global,
     shown: &mut String,
     site: Site<'_>,
     tokens: &[Token<'_>],
 ) -> Result<bool, AllocError> {
-    let Some(outlook) = outlook_after(alloc, tokens, site.faulty.part)? else {
+    let Some(outlook) = outlook_after(site.faulty.alloc, tokens, site.faulty.part)? else {
         return Ok(false);
     };
-    let declared = declared_in(alloc, site.faulty.script)?;
-    if push_operator(alloc, shown, site, outlook.role, &declared)?
-        || push_mode(alloc, shown, site, &outlook)?
-    {
+    let declared = declared_in(site.faulty.alloc, site.faulty.script)?;
+    if push_operator(shown, site, outlook.role, &declared)? || push_mode(shown, site, &outlook)? {
         return Ok(true);
     }
     let is_over = is_item(site.spot.kind) || site.spot.token.is_empty();
     match outlook.first_required() {
         Some(Symbol::Close) | None if is_over => Ok(false),
-        Some(Symbol::Close) | None => {
-            push_inside(alloc, shown, site, &outlook, tokens, &declared)
-        }
-        Some(symbol) => push_required(alloc, shown, site, symbol, &declared),
+        Some(Symbol::Close) | None => { push_inside(shown, site, &outlook, tokens, &declared) }
+        Some(symbol) => push_required(shown, site, symbol, &declared),
     }
 }
 
 /// Appends what can come at the place of a name that is declared as something else. Returns whether it did.
 pub(crate) fn push_use(
-    alloc: Global,
     shown: &mut String,
     site: Site<'_>,
     tokens: &[Token<'_>],
     declared: DeclaredName<'_>,
 ) -> Result<bool, AllocError> {
-    let Some(mut outlook) = outlook_after(alloc, tokens, site.faulty.part)? else {
+    let Some(mut outlook) = outlook_after(site.faulty.alloc, tokens, site.faulty.part)? else {
         return Ok(false);
     };
     if !outlook.pass(Kind::Name)? {
@@ -250,7 +243,7 @@ pub(crate) fn push_use(
     }
     match outlook.role {
         Some(Symbol::Name) if site.last_kind() == Some(Kind::Word(Word::Define)) => {
-            push_form(alloc, shown, declared)
+            push_form(site.faulty.alloc, shown, declared)
         }
         Some(Symbol::Condition) => push_advice(
             shown,
@@ -258,13 +251,13 @@ pub(crate) fn push_use(
         ),
         Some(Symbol::Definition) => push_advice(shown, GROUPINGS),
         Some(role) if role.has_command() && declared.word == Word::Integers => {
-            let name = cut(alloc, site.spot.token)?;
+            let name = cut(site.faulty.alloc, site.spot.token)?;
             push_text(
                 shown,
-                format!(in alloc; "An integer is no command, but ${name} > 0 is one.")?,
+                format!(in site.faulty.alloc; "An integer is no command, but ${name} > 0 is one.")?,
             )
         }
-        Some(role) if !role.has_command() => push_follower(alloc, shown, site, role),
+        Some(role) if !role.has_command() => push_follower(shown, site, role),
         _ => Ok(false),
     }
 }

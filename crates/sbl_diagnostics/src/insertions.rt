@@ -33,11 +33,14 @@ fn inserts_after(alloc: Global, text: &[u8]) -> Option<Inserts> {
 }
 
 /// Returns the insert characters that hold at a place: in a typed block those of the script.
-fn inserts_at(alloc: Global, place: Place<'_>) -> Option<Inserts> {
+fn inserts_at(place: Place<'_>) -> Option<Inserts> {
     let Place { faulty, spot } = place;
     match faulty.part {
-        Some(_) => inserts_after(alloc, faulty.script),
-        None => inserts_after(alloc, faulty.text.get(..spot.begin).unwrap_or(faulty.text)),
+        Some(_) => inserts_after(faulty.alloc, faulty.script),
+        None => inserts_after(
+            faulty.alloc,
+            faulty.text.get(..spot.begin).unwrap_or(faulty.text),
+        ),
     }
 }
 
@@ -70,14 +73,10 @@ fn open_insertion(text: &str, inserts: Inserts) -> Option<usize> {
 }
 
 /// Appends what is wrong with a literal or an insertion: that the closing character is missing, if that is so.
-pub(crate) fn push_insertion(
-    alloc: Global,
-    shown: &mut String,
-    place: Place<'_>,
-) -> Result<(), AllocError> {
+pub(crate) fn push_insertion(shown: &mut String, place: Place<'_>) -> Result<(), AllocError> {
     let Place { faulty, spot } = place;
     let rest = str::from_utf8(faulty.text.get(spot.begin..).unwrap_or(&[])).unwrap_or("");
-    let Some(inserts) = inserts_at(alloc, place) else {
+    let Some(inserts) = inserts_at(place) else {
         return shown.push_str(reason(faulty.fault));
     };
     let closing = inserts.closing;
@@ -89,7 +88,7 @@ pub(crate) fn push_insertion(
         (Some(length), ScriptFault::UnclosedString { .. }) => {
             let begin = spot.begin.saturating_add(length);
             let Position { line, column } = position_of(faulty.text, begin);
-            let text = format!(in alloc;
+            let text = format!(in faulty.alloc;
                 "the insertion that begins at {line}:{column} has no closing {closing}"
             )?;
             shown.push_str(text.as_str())

@@ -24,19 +24,18 @@ fn is_declared(alloc: Global, script: &[u8], name: &str) -> Result<bool, AllocEr
 /// Appends what the name at the place may be meant for if it is not declared: what to write for a word of other languages, or a reserved
 /// word that can come there. Returns whether it did.
 pub(crate) fn push_meaning(
-    alloc: Global,
     shown: &mut String,
     site: Site<'_>,
     tokens: &[Token<'_>],
 ) -> Result<bool, AllocError> {
     let (faulty, name) = (site.faulty, site.spot.token);
-    if is_declared(alloc, faulty.script, name)? {
+    if is_declared(faulty.alloc, faulty.script, name)? {
         return Ok(false);
     }
-    if let Some(advice) = advice_on(alloc, faulty.script, name) {
+    if let Some(advice) = advice_on(faulty.alloc, faulty.script, name) {
         return push_advice(shown, advice);
     }
-    let found = nearest_words(alloc, name, tokens, faulty.part, LETTERS)?;
+    let found = nearest_words(faulty.alloc, name, tokens, faulty.part, LETTERS)?;
     if found.is_empty() {
         return Ok(false);
     }
@@ -81,7 +80,6 @@ fn can_follow(
 /// Appends which reserved word the name before the place may be meant for: it is not declared, and with the word the token at the place
 /// could follow. Returns whether it did.
 pub(crate) fn push_word_before(
-    alloc: Global,
     shown: &mut String,
     site: Site<'_>,
     tokens: &[Token<'_>],
@@ -93,11 +91,13 @@ pub(crate) fn push_word_before(
     let [before @ .., _] = tokens else {
         return Ok(false);
     };
-    if is_declared(alloc, faulty.script, name)? || advice_on(alloc, faulty.script, name).is_some() {
+    if is_declared(faulty.alloc, faulty.script, name)?
+        || advice_on(faulty.alloc, faulty.script, name).is_some()
+    {
         return Ok(false);
     }
-    let near = nearest_words(alloc, name, before, faulty.part, LETTERS)?;
-    let found = words_before(alloc, &near, before, faulty.part, kind)?;
+    let near = nearest_words(faulty.alloc, name, before, faulty.part, LETTERS)?;
+    let found = words_before(faulty.alloc, &near, before, faulty.part, kind)?;
     if found.is_empty() {
         return Ok(false);
     }
@@ -128,18 +128,14 @@ fn near_among<'a>(
 }
 
 /// Appends that a `substring` has no `among`, and a name after it that may be meant for one.
-pub(crate) fn push_substring(
-    alloc: Global,
-    shown: &mut String,
-    place: Place<'_>,
-) -> Result<(), AllocError> {
+pub(crate) fn push_substring(shown: &mut String, place: Place<'_>) -> Result<(), AllocError> {
     let Place { faulty, spot } = place;
     shown.push_str(reason(faulty.fault))?;
-    let Some(tokens) = tokens_before(alloc, faulty.text, faulty.text.len()) else {
+    let Some(tokens) = tokens_before(faulty.alloc, faulty.text, faulty.text.len()) else {
         return Ok(());
     };
-    match near_among(alloc, &tokens, spot.begin)? {
-        Some(name) if !is_declared(alloc, faulty.script, name)? => {
+    match near_among(faulty.alloc, &tokens, spot.begin)? {
+        Some(name) if !is_declared(faulty.alloc, faulty.script, name)? => {
             shown.push_str(". ")?;
             push_cut(shown, name)?;
             shown.push_str(" is not declared. Did you mean among?")

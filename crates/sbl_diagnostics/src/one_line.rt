@@ -41,7 +41,6 @@ fn push_short(shown: &mut String, place: Place<'_>) -> Result<(), AllocError> {
 
 /// Appends what is wrong at a place of a text, or with the text if the fault is at no place.
 fn push_fault(
-    alloc: Global,
     shown: &mut String,
     faulty: Faulty<'_>,
     begin: Option<usize>,
@@ -51,14 +50,14 @@ fn push_fault(
         return shown.push_str("the text is empty");
     }
     let Some(begin) = begin else {
-        return push_reason(alloc, shown, faulty);
+        return push_reason(shown, faulty);
     };
-    let spot = spot_at(alloc, faulty.text, begin);
+    let spot = spot_at(faulty.alloc, faulty.text, begin);
     let place = Place { faulty, spot };
     if is_short {
         push_short(shown, place)
     } else {
-        push_sentence(alloc, shown, place)
+        push_sentence(shown, place)
     }
 }
 
@@ -72,6 +71,7 @@ pub fn fault_sentence(
     is_short: bool,
 ) -> Result<String, AllocError> {
     let faulty = Faulty {
+        alloc,
         text: refused.text,
         fault,
         part: refused.part,
@@ -79,6 +79,6 @@ pub fn fault_sentence(
         external: refused.external,
     };
     let mut shown = String::new(alloc);
-    push_fault(alloc, &mut shown, faulty, begin, is_short)?;
+    push_fault(&mut shown, faulty, begin, is_short)?;
     in_one_line(alloc, shown.as_str())
 }

@@ -222,27 +222,26 @@ pub(crate) fn push_title(
 /// Returns the lines on a fault of a text: its place, what is wrong, and the line with carets; only what is wrong if it is at no
 /// place.
 pub(crate) fn fault_text(
-    alloc: Global,
     title: Title<'_>,
     faulty: Faulty<'_>,
     begin: Option<usize>,
 ) -> Result<String, AllocError> {
-    let mut shown = String::new(alloc);
+    let mut shown = String::new(faulty.alloc);
     if faulty.part.is_some() && is_blank(faulty.text) {
-        push_title(alloc, &mut shown, title, None)?;
+        push_title(faulty.alloc, &mut shown, title, None)?;
         shown.push_str("the text is empty")?;
         return Ok(shown);
     }
     let Some(begin) = begin else {
-        push_title(alloc, &mut shown, title, None)?;
-        push_reason(alloc, &mut shown, faulty)?;
+        push_title(faulty.alloc, &mut shown, title, None)?;
+        push_reason(&mut shown, faulty)?;
         return Ok(shown);
     };
     let position = position_of(faulty.text, begin);
-    let spot = spot_at(alloc, faulty.text, begin);
-    push_title(alloc, &mut shown, title, Some(position))?;
-    push_sentence(alloc, &mut shown, Place { faulty, spot })?;
-    let characters = characters_of(alloc, line_at(faulty.text, position.line))?;
+    let spot = spot_at(faulty.alloc, faulty.text, begin);
+    push_title(faulty.alloc, &mut shown, title, Some(position))?;
+    push_sentence(&mut shown, Place { faulty, spot })?;
+    let characters = characters_of(faulty.alloc, line_at(faulty.text, position.line))?;
     let before = position.column.saturating_sub(1);
     push_line(&mut shown, &characters, before, spot.token.chars().count())?;
     Ok(shown)
@@ -262,11 +261,12 @@ pub fn script_fault_text<'x>(
         source: None,
     };
     let faulty = Faulty {
+        alloc,
         text,
         fault,
         part: None,
         script: text,
         external,
     };
-    fault_text(alloc, title, faulty, begin)
+    fault_text(title, faulty, begin)
 }

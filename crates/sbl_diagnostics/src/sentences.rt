@@ -25,6 +25,8 @@ const INSERTS: &str =
 /// A text that has a fault.
 #[derive(Clone, Copy)]
 pub(crate) struct Faulty<'a> {
+    /// What allocates what is written on the fault.
+    pub(crate) alloc: Global,
     pub(crate) text: &'a [u8],
     pub(crate) fault: ScriptFault,
     /// What the text is put in place of, if it is not a whole script.
@@ -47,6 +49,17 @@ pub(crate) struct Spot<'a> {
 pub(crate) struct Place<'a> {
     pub(crate) faulty: Faulty<'a>,
     pub(crate) spot: Spot<'a>,
+}
+
+impl<'a> Place<'a> {
+    /// Returns the tokens of the text before the place; none if they cannot be read.
+    pub(crate) fn tokens_before(self) -> Vec<Token<'a>> {
+        let Place { faulty, spot } = self;
+        match tokens_before(faulty.alloc, faulty.text, spot.begin) {
+            Some(tokens) => tokens,
+            None => Vec::new(faulty.alloc),
+        }
+    }
 }
 
 /// What the text of a block is.
@@ -96,6 +109,14 @@ pub(crate) fn tokens_before(alloc: Global, text: &[u8], offset: usize) -> Option
     }
 }
 
+/// Returns the tokens of a script; none if they cannot be read.
+pub(crate) fn tokens_of(alloc: Global, script: &[u8]) -> Vec<Token<'_>> {
+    match tokens_before(alloc, script, script.len()) {
+        Some(tokens) => tokens,
+        None => Vec::new(alloc),
+    }
+}
+
 /// Returns whether only white space follows an offset.
 fn is_at_end(text: &[u8], offset: usize) -> bool {
     let rest = text.get(offset..).unwrap_or(&[]);
@@ -136,24 +157,20 @@ fn push_open(
 }
 
 /// Appends what is wrong with a text that begins with the definition of another name, and returns whether it does.
-fn push_beginning(
-    alloc: Global,
-    shown: &mut String,
-    faulty: Faulty<'_>,
-) -> Result<bool, AllocError> {
+fn push_beginning(shown: &mut String, faulty: Faulty<'_>) -> Result<bool, AllocError> {
     let (word, name) = match faulty.part {
         Some(Part::Routine(name)) => ("routine", name),
         Some(Part::Grouping(name)) => ("grouping", name),
         _ => return Ok(false),
     };
-    let Some(other) = defined_first(alloc, faulty.text)? else {
+    let Some(other) = defined_first(faulty.alloc, faulty.text)? else {
         return Ok(false);
     };
     if other == name {
         return Ok(false);
     }
-    let (other, name) = (cut(alloc, other)?, cut(alloc, name)?);
-    let text = format!(in alloc;
+    let (other, name) = (cut(faulty.alloc, other)?, cut(faulty.alloc, name)?);
+    let text = format!(in faulty.alloc;
         "the text begins with the definition of {other}, and {word} {name} replaces that of {name}"
     )?;
     shown.push_str(text.as_str())?;
@@ -178,29 +195,28 @@ fn defined_first(alloc: Global, text: &[u8]) -> Result<Option<&str>, AllocError>
 }
 
 /// Appends what is wrong with a token that cannot follow those before it, or with the end of the text.
-fn push_syntax(alloc: Global, shown: &mut String, place: Place<'_>) -> Result<(), AllocError> {
+fn push_syntax(shown: &mut String, place: Place<'_>) -> Result<(), AllocError> {
     let Place { faulty, spot } = place;
-    match tokens_before(alloc, faulty.text, spot.begin) {
+    match tokens_before(faulty.alloc, faulty.text, spot.begin) {
         Some(before) => {
-            if before.is_empty() && push_beginning(alloc, shown, faulty)? {
+            if before.is_empty() && push_beginning(shown, faulty)? {
                 return Ok(());
             }
-            push_clause(alloc, shown, place, Some(&before))
+            push_clause(shown, place, Some(&before))
         }
-        None => push_clause(alloc, shown, place, None),
+        None => push_clause(shown, place, None),
     }
 }
 
 /// Appends that a token cannot follow these, cannot begin the text or is missing, and what can come there.
 fn push_clause<'a>(
-    alloc: Global,
     shown: &mut String,
     place: Place<'a>,
     before: Option<&[Token<'a>]>,
 ) -> Result<(), AllocError> {
     let Place { faulty, spot } = place;
     let (begins, open) = match before {
-        Some(before) => (before.is_empty(), open_in(alloc, before)?),
+        Some(before) => (before.is_empty(), open_in(faulty.alloc, before)?),
         None => (false, None),
     };
     if spot.kind == Some(Kind::Sign(Sign::Close)) && before.is_some() && open.is_none() {
@@ -208,7 +224,7 @@ fn push_clause<'a>(
     }
     if is_at_end(faulty.text, spot.begin) {
         shown.push_str("the text ends here, and more is needed")?;
-        push_open(alloc, shown, faulty.text, open)?;
+        push_open(faulty.alloc, shown, faulty.text, open)?;
     } else {
         push_thing(shown, spot)?;
         shown.push_str(if begins && faulty.part.is_some() {
@@ -217,16 +233,15 @@ fn push_clause<'a>(
             " cannot follow what is before it"
         })?;
         if is_at_item(spot.kind) {
-            push_open(alloc, shown, faulty.text, open)?;
+            push_open(faulty.alloc, shown, faulty.text, open)?;
         }
     }
     let is_outside = before.is_some() && open.is_none();
-    push_cure(alloc, shown, place, before, is_outside)
+    push_cure(shown, place, before, is_outside)
 }
 
 /// Appends what can come in place of a token, if that is sure.
 fn push_cure<'a>(
-    alloc: Global,
     shown: &mut String,
     place: Place<'a>,
     before: Option<&[Token<'a>]>,
@@ -235,12 +250,10 @@ fn push_cure<'a>(
     let Place { faulty, spot } = place;
     if let Some(before) = before {
         let site = Site::new(faulty, before, spot);
-        if spot.kind == Some(Kind::Name) && push_meaning(alloc, shown, site, before)? {
+        if spot.kind == Some(Kind::Name) && push_meaning(shown, site, before)? {
             return Ok(());
         }
-        if push_word_before(alloc, shown, site, before)?
-            || push_expectation(alloc, shown, site, before)?
-        {
+        if push_word_before(shown, site, before)? || push_expectation(shown, site, before)? {
             return Ok(());
         }
     }
@@ -263,19 +276,19 @@ fn push_closing(shown: &mut String, part: Option<Part<'_>>) -> Result<(), AllocE
 }
 
 /// Appends what is wrong with a name: that it is not declared, or is declared as something that cannot be used here.
-fn push_name(alloc: Global, shown: &mut String, place: Place<'_>) -> Result<(), AllocError> {
+fn push_name(shown: &mut String, place: Place<'_>) -> Result<(), AllocError> {
     let Place { faulty, spot } = place;
     let name = spot.token;
-    let declared = declared_in(alloc, faulty.script)?;
+    let declared = declared_in(faulty.alloc, faulty.script)?;
     match (faulty.fault, declaration_of(&declared, name)) {
-        (ScriptFault::Undeclared { .. }, _) => { push_undeclared(alloc, shown, &declared, place) }
+        (ScriptFault::Undeclared { .. }, _) => { push_undeclared(shown, &declared, place) }
         (_, Some(declaration)) => {
             shown.push_str(" is declared as ")?;
             shown.push_str(kind_text(declaration.word))?;
             shown.push_str(", which cannot be used here")?;
-            if let Some(before) = tokens_before(alloc, faulty.text, spot.begin) {
+            if let Some(before) = tokens_before(faulty.alloc, faulty.text, spot.begin) {
                 let site = Site::new(faulty, &before, spot);
-                push_use(alloc, shown, site, &before, declaration)?;
+                push_use(shown, site, &before, declaration)?;
             }
             Ok(())
         }
@@ -287,30 +300,26 @@ fn push_name(alloc: Global, shown: &mut String, place: Place<'_>) -> Result<(), 
 }
 
 /// Appends why the external that is to be run is not there.
-pub(crate) fn push_external(
-    alloc: Global,
-    shown: &mut String,
-    faulty: Faulty<'_>,
-) -> Result<(), AllocError> {
+pub(crate) fn push_external(shown: &mut String, faulty: Faulty<'_>) -> Result<(), AllocError> {
     let wanted = faulty.external;
-    let declared = declared_in(alloc, faulty.script)?;
-    let there = names_of(alloc, &declared, true)?;
+    let declared = declared_in(faulty.alloc, faulty.script)?;
+    let there = names_of(faulty.alloc, &declared, true)?;
     let Some(first) = there.first() else {
-        let wanted = cut(alloc, wanted)?;
-        let text = format!(in alloc;
+        let wanted = cut(faulty.alloc, wanted)?;
+        let text = format!(in faulty.alloc;
             "the script declares no external: write externals ( {wanted} ), and define {wanted} as .."
         )?;
         return shown.push_str(text.as_str());
     };
     if there.contains(&wanted) {
-        return push_no_definition(alloc, shown, faulty);
+        return push_no_definition(shown, faulty);
     }
     shown.push_str("the script has no external ")?;
     push_cut(shown, wanted)?;
     shown.push_str(". It has ")?;
     push_listed(shown, &there, " and ")?;
     shown.push_str(": use --external ")?;
-    let near = nearest_of(alloc, wanted, &there)?;
+    let near = nearest_of(faulty.alloc, wanted, &there)?;
     push_cut(shown, near.unwrap_or(*first))
 }
 
@@ -370,10 +379,10 @@ fn push_character(shown: &mut String, place: Place<'_>) -> Result<(), AllocError
 }
 
 /// Appends that something is left out here, or that a sign is missing after the name of an integer.
-fn push_left_out(alloc: Global, shown: &mut String, place: Place<'_>) -> Result<(), AllocError> {
+fn push_left_out(shown: &mut String, place: Place<'_>) -> Result<(), AllocError> {
     let Place { faulty, spot } = place;
     if spot.kind == Some(Kind::Sign(Sign::Dollar)) {
-        if let Some(name) = integer_after(alloc, faulty, spot.begin)? {
+        if let Some(name) = integer_after(faulty, spot.begin)? {
             shown.push_str("after $")?;
             push_cut(shown, name)?;
             return shown.push_str(" comes a sign such as =, += or >");
@@ -385,16 +394,12 @@ fn push_left_out(alloc: Global, shown: &mut String, place: Place<'_>) -> Result<
 }
 
 /// Returns the name after the `$` at an offset, if it is declared as an integer.
-fn integer_after<'a>(
-    alloc: Global,
-    faulty: Faulty<'a>,
-    begin: usize,
-) -> Result<Option<&'a str>, AllocError> {
+fn integer_after<'a>(faulty: Faulty<'a>, begin: usize) -> Result<Option<&'a str>, AllocError> {
     let Ok(rest) = str::from_utf8(faulty.text.get(begin..).unwrap_or(&[])) else {
         return Ok(None);
     };
-    let declared = declared_in(alloc, faulty.script)?;
-    let mut lexer = Lexer::new(alloc, rest);
+    let declared = declared_in(faulty.alloc, faulty.script)?;
+    let mut lexer = Lexer::new(faulty.alloc, rest);
     let Ok(Some(_)) = lexer.next() else {
         return Ok(None);
     };
@@ -408,36 +413,32 @@ fn integer_after<'a>(
 }
 
 /// Appends the sentence for a fault at a place.
-pub(crate) fn push_sentence(
-    alloc: Global,
-    shown: &mut String,
-    place: Place<'_>,
-) -> Result<(), AllocError> {
+pub(crate) fn push_sentence(shown: &mut String, place: Place<'_>) -> Result<(), AllocError> {
     let Place { faulty, spot } = place;
-    if push_nested(alloc, shown, place)? {
+    if push_nested(shown, place)? {
         return Ok(());
     }
     match faulty.fault {
-        ScriptFault::Syntax { .. } => push_syntax(alloc, shown, place),
+        ScriptFault::Syntax { .. } => push_syntax(shown, place),
         ScriptFault::Undeclared { .. } | ScriptFault::WrongKind { .. } => {
             push_thing(shown, spot)?;
-            push_name(alloc, shown, place)
+            push_name(shown, place)
         }
         ScriptFault::Undefined { .. } => {
             push_thing(shown, spot)?;
-            push_undefined(alloc, shown, place)
+            push_undefined(shown, place)
         }
         ScriptFault::WrongMode { .. } => {
             push_thing(shown, spot)?;
-            push_wrong_mode(alloc, shown, place)
+            push_wrong_mode(shown, place)
         }
         ScriptFault::NotUtf8 => push_byte(shown, faulty, spot.begin),
         ScriptFault::BadCharacter { .. } => push_character(shown, place),
-        ScriptFault::OutOfProfile { .. } => push_left_out(alloc, shown, place),
-        ScriptFault::Substring { .. } => push_substring(alloc, shown, place),
+        ScriptFault::OutOfProfile { .. } => push_left_out(shown, place),
+        ScriptFault::Substring { .. } => push_substring(shown, place),
         ScriptFault::UnclosedString { .. }
         | ScriptFault::UnknownEscape { .. }
-        | ScriptFault::BadCode { .. } => push_insertion(alloc, shown, place),
+        | ScriptFault::BadCode { .. } => push_insertion(shown, place),
         fault => {
             if !begins_sentence(fault) {
                 push_thing(shown, spot)?;
@@ -449,13 +450,9 @@ pub(crate) fn push_sentence(
 }
 
 /// Appends the sentence for a fault that is at no place.
-pub(crate) fn push_reason(
-    alloc: Global,
-    shown: &mut String,
-    faulty: Faulty<'_>,
-) -> Result<(), AllocError> {
+pub(crate) fn push_reason(shown: &mut String, faulty: Faulty<'_>) -> Result<(), AllocError> {
     match faulty.fault {
-        ScriptFault::NoExternal => push_external(alloc, shown, faulty),
+        ScriptFault::NoExternal => push_external(shown, faulty),
         fault => {
             if !begins_sentence(fault) {
                 shown.push_str("something outside this text ")?;

@@ -85,12 +85,12 @@ impl<'a> Site<'a> {
     }
 
     /// Returns the kinds of the two tokens after the one at the place.
-    pub(crate) fn next_kinds(self, alloc: Global) -> (Option<Kind>, Option<Kind>) {
+    pub(crate) fn next_kinds(self) -> (Option<Kind>, Option<Kind>) {
         let rest = self.faulty.text.get(self.spot.begin..).unwrap_or(&[]);
         let Ok(rest) = str::from_utf8(rest) else {
             return (None, None);
         };
-        let mut lexer = Lexer::new(alloc, rest);
+        let mut lexer = Lexer::new(self.faulty.alloc, rest);
         let _ = next_kind(&mut lexer);
         let next = next_kind(&mut lexer);
         let second = next_kind(&mut lexer);

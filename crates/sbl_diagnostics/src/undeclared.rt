@@ -6,7 +6,7 @@ use crate::definitions::is_at_terms;
 use crate::foreign::advice_on;
 use crate::grammar::is_operator;
 use crate::near::{push_near, push_near_word};
-use crate::sentences::{Faulty, Place, tokens_before};
+use crate::sentences::{Faulty, Place, tokens_of};
 use sbl_script::Part;
 use sbl_text::{Kind, Sign, Token, Word};
 use std::alloc::{AllocError, Global};
@@ -84,14 +84,11 @@ fn defined_in(tokens: &[Token<'_>], name: &str) -> Option<Word> {
 
 /// Returns the word that declares what a script defines a name as, if it does and its tokens can be read.
 fn defined_as(alloc: Global, script: &[u8], name: &str) -> Option<Word> {
-    match tokens_before(alloc, script, script.len()) {
-        Some(tokens) => defined_in(&tokens, name),
-        None => None,
-    }
+    defined_in(&tokens_of(alloc, script), name)
 }
 
 /// Returns what a name has to be that follows these tokens of a text.
-fn need_after(alloc: Global, faulty: Faulty<'_>, before: &[Token<'_>], name: &str) -> Need {
+fn need_after(faulty: Faulty<'_>, before: &[Token<'_>], name: &str) -> Need {
     let (prior, last) = match before {
         [.., prior, last] => (Some(prior.kind), last.kind),
         [last] => (None, last.kind),
@@ -118,28 +115,21 @@ fn need_after(alloc: Global, faulty: Faulty<'_>, before: &[Token<'_>], name: &st
         _ => Usage::Command,
     };
     Need {
-        word: defined_as(alloc, faulty.script, name).unwrap_or(guess),
+        word: defined_as(faulty.alloc, faulty.script, name).unwrap_or(guess),
         usage,
     }
 }
 
 /// Returns what the name at a place has to be.
-fn need_at(alloc: Global, place: Place<'_>) -> Need {
+fn need_at(place: Place<'_>) -> Need {
     let Place { faulty, spot } = place;
-    if is_at_terms(alloc, place) {
+    if is_at_terms(place) {
         return Need {
             word: Word::Groupings,
             usage: Usage::OneKind,
         };
     }
-    let before = tokens_before(alloc, faulty.text, spot.begin);
-    match before {
-        Some(before) => need_after(alloc, faulty, &before, spot.token),
-        None => Need {
-            word: Word::Routines,
-            usage: Usage::Command,
-        },
-    }
+    need_after(faulty, &place.tokens_before(), spot.token)
 }
 
 /// Returns whether a name that this word declares can be used so.
@@ -184,77 +174,62 @@ fn declaring_text(word: Word) -> &'static str {
 
 /// Appends how to declare a name, between two texts. A typed block declares nothing, so there it is to be done in the script.
 fn push_declaration(
-    alloc: Global,
     shown: &mut String,
     place: Place<'_>,
     need: Need,
     lead: &str,
     rest: &str,
 ) -> Result<(), AllocError> {
-    let name = cut(alloc, place.spot.token)?;
+    let name = cut(place.faulty.alloc, place.spot.token)?;
     let word = declaring_text(need.word);
     let there = match place.faulty.part {
         Some(_) => " in the script",
         None => "",
     };
-    let text = format!(in alloc; "{lead} it{there}, as in {word} ( {name} ){rest}")?;
+    let text = format!(in place.faulty.alloc; "{lead} it{there}, as in {word} ( {name} ){rest}")?;
     shown.push_str(text.as_str())
 }
 
 /// Appends how to declare a name as a grouping, or how to write its characters.
-fn push_term(
-    alloc: Global,
-    shown: &mut String,
-    place: Place<'_>,
-    need: Need,
-) -> Result<(), AllocError> {
+fn push_term(shown: &mut String, place: Place<'_>, need: Need) -> Result<(), AllocError> {
     let rest = ", or put characters in quotes: '";
-    push_declaration(alloc, shown, place, need, " Declare", rest)?;
+    push_declaration(shown, place, need, " Declare", rest)?;
     push_cut(shown, place.spot.token)?;
     shown.push_str("'")
 }
 
 /// Appends what may be meant by a name or how to declare it.
 fn push_way_out(
-    alloc: Global,
     shown: &mut String,
     declared: &[DeclaredName<'_>],
     place: Place<'_>,
 ) -> Result<(), AllocError> {
     let Place { faulty, spot } = place;
     let name = spot.token;
-    let need = need_at(alloc, place);
-    let names = usable_names(alloc, declared, faulty.part, need)?;
-    if push_near(alloc, shown, name, &names)? {
+    let need = need_at(place);
+    let names = usable_names(faulty.alloc, declared, faulty.part, need)?;
+    if push_near(faulty.alloc, shown, name, &names)? {
         if need.usage == Usage::New {
-            return push_declaration(alloc, shown, place, need, " If not, declare", ".");
+            return push_declaration(shown, place, need, " If not, declare", ".");
         }
         return Ok(());
     }
-    if is_at_terms(alloc, place) {
-        return push_term(alloc, shown, place, need);
+    if is_at_terms(place) {
+        return push_term(shown, place, need);
     }
-    if let Some(advice) = advice_on(alloc, faulty.script, name) {
+    if let Some(advice) = advice_on(faulty.alloc, faulty.script, name) {
         shown.push_str(" ")?;
         return shown.push_str(advice);
     }
-    let before = tokens_before(alloc, faulty.text, spot.begin).unwrap_or(Vec::new(alloc));
-    if push_near_word(alloc, shown, name, &before, faulty.part)? {
-        return push_declaration(alloc, shown, place, need, " If not, declare", ".");
+    let before = place.tokens_before();
+    if push_near_word(faulty.alloc, shown, name, &before, faulty.part)? {
+        return push_declaration(shown, place, need, " If not, declare", ".");
     }
-    push_declaration(
-        alloc,
-        shown,
-        place,
-        need,
-        " Declare",
-        ", or use another name.",
-    )
+    push_declaration(shown, place, need, " Declare", ", or use another name.")
 }
 
 /// Appends that a name is not declared, and what may be meant or how to declare it.
 pub(crate) fn push_undeclared(
-    alloc: Global,
     shown: &mut String,
     declared: &[DeclaredName<'_>],
     place: Place<'_>,
@@ -264,10 +239,10 @@ pub(crate) fn push_undeclared(
         return shown.push_str(" is declared only after this: move its declaration before it");
     }
     shown.push_str(" is not declared.")?;
-    if name == place.faulty.external && names_of(alloc, declared, true)?.is_empty() {
+    if name == place.faulty.external && names_of(place.faulty.alloc, declared, true)?.is_empty() {
         shown.push_str(" Declare it: externals ( ")?;
         push_cut(shown, name)?;
         return shown.push_str(" )");
     }
-    push_way_out(alloc, shown, declared, place)
+    push_way_out(shown, declared, place)
 }

@@ -39,29 +39,28 @@ pub fn refused_edit_text<'x>(
 ) -> Option<String> {
     match edit.fault {
         EditFault::Script(_) | EditFault::AmongCount => {
-            plain_if_any(edit_text(alloc, bench, edit, external, input, line))
+            let source = (input, usize::try_from(line).unwrap_or(usize::MAX));
+            plain_if_any(edit_text(alloc, bench, edit, external, source))
         }
         _ => None,
     }
 }
 
-/// Returns the lines on the fault of an edit.
+/// Returns the lines on the fault of an edit whose block begins in this line of a text.
 fn edit_text<'x>(
     alloc: Global,
     bench: &Bench,
     edit: &RefusedEdit,
     external: &'x str,
-    input: &'x str,
-    line: u64,
+    source: (&'x str, usize),
 ) -> FaultText {
     let script = bench.script().print(alloc)?;
-    let first = usize::try_from(line).unwrap_or(usize::MAX);
     let typed = TypedBlock {
         block: edit.text.as_slice(),
         script: script.as_bytes(),
         external,
         takes_heads: false,
-        source: Some((input, first)),
+        source: Some(source),
     };
     block_text(alloc, edit.line.as_str(), typed)
 }
