@@ -31,8 +31,9 @@ pub record Measures (r : Ruler) : Type 0 where
   pub line : r.position.line ≡ line_at r.text.now r.offset
   pub column : r.position.column ≡ column_at r.text.now r.offset
 
--- the rows have this text after that of before
+-- the rows have this text after that of before, and nothing else has changed but where the ruler is
 pub record TakesLine (old new : Rows) (line : List ℕ) : Type 0 where
   pub out : new.out.items ≡ old.out.items ++ line
   pub measures : Measures new.ruler
   pub same_text : new.ruler.text.now ≡ old.ruler.text.now
+  pub same_walk : context_of new.walk ≡ context_of old.walk

@@ -12,7 +12,7 @@ ghost use Rattle.sbl_text_rows.specs.Rows.{line_if};
 ghost use Rattle.sbl_text_rows.specs.Views.{Measures, TakesLine, context_of};
 
 use crate::extents::{closed_end, is_as, item_end};
-use crate::fields::push_numbers;
+use crate::fields::{push_numbers, record_of};
 use crate::rulers::Ruler;
 use crate::walks::Walk;
 use csv::ByteRecord;
@@ -21,12 +21,13 @@ use sbl_text::laws::first_fault_is_one;
 use sbl_text::{Kind, ScriptFault, Token, Value, Word, tokens};
 use std::alloc::{AllocError, Global};
 
-/// The rows so far, and the position that was asked for last.
+/// The rows so far, the position that was asked for last, and what the tokens so far say of the next one.
 #[derive(Drop)]
 struct Rows<'a> {
     alloc: Global,
     out: Vec<u8>,
     ruler: Ruler<'a>,
+    walk: Walk<'a>,
 }
 
 /// Returns what a definition defines, given the token after its name.
@@ -65,103 +66,73 @@ impl Rows<'_> {
         let Some((next, _)) = rest.split_first() else {
             return Ok(());
         };
-        let mut csv_record = ByteRecord::new(self.alloc);
-        csv_record.push_field(definition_kind(next).as_bytes())?;
-        csv_record.push_field(name.text.as_bytes())?;
+        let mut csv_record = record_of(self.alloc, definition_kind(next), name.text)?;
         self.push(&mut csv_record, define.start, item_end(define.end, after))
     }
 
     /// Appends the row of an among, given its first token and the tokens after that. Returns `AllocError` if an allocation fails.
     #[tactic(auto, unfolding(crate::specs::PlaceRows::among_row))]
-    fn push_among(
-        &mut self,
-        walk: &Walk<'_>,
-        among: &Token<'_>,
-        after: &[Token<'_>],
-    ) -> Result<(), AllocError>
+    fn push_among(&mut self, among: &Token<'_>, after: &[Token<'_>]) -> Result<(), AllocError>
         requires ruler { Measures self.old.ruler }
-        requires few { (context_of walk.now).amongs + 1 < 2 ^ 64 }
-        ensures { OnOk result (TakesLine self.old self.new (record_line (spec.among_row self.old.ruler.text.now (context_of walk.now) (placed_of among.now) (map placed_of after.now)))) }
+        requires few { (context_of self.old.walk).amongs + 1 < 2 ^ 64 }
+        ensures { OnOk result (TakesLine self.old self.new (record_line (spec.among_row self.old.ruler.text.now (context_of self.old.walk) (placed_of among.now) (map placed_of after.now)))) }
     {
-        let mut csv_record = ByteRecord::new(self.alloc);
-        csv_record.push_field(b"among")?;
-        csv_record.push_field(walk.name().as_bytes())?;
-        push_number(self.alloc, &mut csv_record, walk.next_among())?;
+        let mut csv_record = record_of(self.alloc, "among", self.walk.name())?;
+        push_number(self.alloc, &mut csv_record, self.walk.next_among())?;
         self.push(&mut csv_record, among.start, closed_end(among.end, after))
     }
 
-    /// Appends the row of a string of the among with this number. Returns `AllocError` if an allocation fails.
+    /// Appends the row of a literal if it is a string of the among with this number, which is 0 if there is none. Returns `AllocError`
+    /// if an allocation fails.
     #[tactic(auto, unfolding(crate::specs::PlaceRows::entry_row))]
-    fn push_entry(
+    fn push_string(
         &mut self,
-        walk: &Walk<'_>,
         literal: &Token<'_>,
         string: &[char],
         number: usize,
     ) -> Result<(), AllocError>
         requires { Measures self.old.ruler }
-        ensures { OnOk result (TakesLine self.old self.new (record_line (spec.entry_row self.old.ruler.text.now (context_of walk.now) (placed_of literal.now) string.now number))) }
+        ensures { OnOk result (TakesLine self.old self.new (line_if (spec.string_row self.old.ruler.text.now (context_of self.old.walk) (placed_of literal.now) string.now number))) }
     {
-        let mut csv_record = ByteRecord::new(self.alloc);
-        csv_record.push_field(b"entry")?;
-        csv_record.push_field(walk.name().as_bytes())?;
+        if number == 0 {
+            return Ok(());
+        }
+        let mut csv_record = record_of(self.alloc, "entry", self.walk.name())?;
         push_number(self.alloc, &mut csv_record, number)?;
         let text = text_of(self.alloc, string)?;
         csv_record.push_field(text.as_bytes())?;
         self.push(&mut csv_record, literal.start, literal.end)
     }
 
-    /// Appends the row of a literal if it is a string of the among with this number, which is 0 if there is none. Returns `AllocError`
-    /// if an allocation fails.
-    fn push_string(
-        &mut self,
-        walk: &Walk<'_>,
-        literal: &Token<'_>,
-        string: &[char],
-        number: usize,
-    ) -> Result<(), AllocError>
-        requires { Measures self.old.ruler }
-        ensures { OnOk result (TakesLine self.old self.new (line_if (spec.string_row self.old.ruler.text.now (context_of walk.now) (placed_of literal.now) string.now number))) }
-    {
-        if number == 0 {
-            return Ok(());
-        }
-        self.push_entry(walk, literal, string, number)
-    }
-
     /// Appends the row of a name. Returns `AllocError` if an allocation fails.
     #[tactic(auto, unfolding(crate::specs::PlaceRows::name_row))]
-    fn push_name(&mut self, walk: &Walk<'_>, name: &Token<'_>) -> Result<(), AllocError>
+    fn push_name(&mut self, name: &Token<'_>) -> Result<(), AllocError>
         requires { Measures self.old.ruler }
-        ensures { OnOk result (TakesLine self.old self.new (record_line (spec.name_row self.old.ruler.text.now (context_of walk.now) (placed_of name.now)))) }
+        ensures { OnOk result (TakesLine self.old self.new (record_line (spec.name_row self.old.ruler.text.now (context_of self.old.walk) (placed_of name.now)))) }
     {
-        let mut csv_record = ByteRecord::new(self.alloc);
-        csv_record.push_field(b"name")?;
-        csv_record.push_field(name.text.as_bytes())?;
-        csv_record.push_field(walk.role().as_bytes())?;
+        let mut csv_record = record_of(self.alloc, "name", name.text)?;
+        csv_record.push_field(self.walk.role().as_bytes())?;
         self.push(&mut csv_record, name.start, name.end)
     }
 
     /// Appends the row of a token, if it has one, given the tokens after it. Returns `AllocError` if an allocation fails.
-    fn push_token(
-        &mut self,
-        walk: &Walk<'_>,
-        token: &Token<'_>,
-        after: &[Token<'_>],
-    ) -> Result<(), AllocError>
+    fn push_token(&mut self, token: &Token<'_>, after: &[Token<'_>]) -> Result<(), AllocError>
         requires ruler { Measures self.old.ruler }
-        requires few { (context_of walk.now).amongs + 1 < 2 ^ 64 }
+        requires few { (context_of self.old.walk).amongs + 1 < 2 ^ 64 }
         requires fitting { SaysFitting token.now }
-        ensures { OnOk result (TakesLine self.old self.new (line_if (spec.row_at self.old.ruler.text.now (context_of walk.now) (placed_of token.now) (map placed_of after.now) (lexeme_of token.now)))) }
+        ensures { OnOk result (TakesLine self.old self.new (line_if (spec.row_at self.old.ruler.text.now (context_of self.old.walk) (placed_of token.now) (map placed_of after.now) (lexeme_of token.now)))) }
     {
         match token.kind {
             Kind::Word(Word::Define) => self.push_definition(token, after),
-            Kind::Word(Word::Among) => self.push_among(walk, token, after),
+            Kind::Word(Word::Among) => self.push_among(token, after),
             Kind::Literal => match &token.value {
-                Value::Literal { value, .. } => self.push_string(walk, token, value, walk.among()),
+                Value::Literal { value, .. } => {
+                    let number = self.walk.among();
+                    self.push_string(token, value, number)
+                }
                 _ => Ok(()),
             },
-            Kind::Name => self.push_name(walk, token),
+            Kind::Name => self.push_name(token),
             _ => Ok(()),
         }
     }
@@ -183,7 +154,7 @@ fn tokens_of<'a>(alloc: Global, text: &'a str) -> Result<Option<Vec<Token<'a>>>,
 }
 
 /// Returns the rows of these tokens of a text.
-fn rows_of(alloc: Global, text: &str, tokens: &[Token<'_>]) -> Result<Vec<u8>, AllocError>
+fn rows_of<'a>(alloc: Global, text: &'a str, tokens: &[Token<'a>]) -> Result<Vec<u8>, AllocError>
     requires { All SaysFitting tokens.now }
     ensures { IfOk result (λ report. report.items ≡ spec.lines_after text.now spec.beginning (map placed_of tokens.now)) }
 {
@@ -191,11 +162,11 @@ fn rows_of(alloc: Global, text: &str, tokens: &[Token<'_>]) -> Result<Vec<u8>, A
         alloc,
         out: Vec::new(alloc),
         ruler: Ruler::new(text.as_bytes()),
+        walk: Walk::new(alloc),
     };
-    let mut walk = Walk::new(alloc);
     for i in 0..tokens.len() {
-        rows.push_token(&walk, &tokens[i], &tokens[i + 1..])?;
-        walk.pass(&tokens[i])?;
+        rows.push_token(&tokens[i], &tokens[i + 1..])?;
+        rows.walk.pass(&tokens[i])?;
     }
     Ok(rows.out)
 }

@@ -15,22 +15,6 @@ pub(crate) struct Ruler<'a> {
     position: Position,
 }
 
-/// Returns the line of an offset, given that of an earlier one.
-fn line_at(text: &[u8], from: usize, line: usize, to: usize) -> usize
-    requires ordered { from ≤ to }
-    requires inside { to < length text.now }
-    requires begins { line ≡ spec.line_at text.now from }
-    ensures { result ≡ spec.line_at text.now to }
-{
-    let mut line = line;
-    for i in from..to {
-        if text[i] == b'\n' {
-            line += 1;
-        }
-    }
-    line
-}
-
 /// Whether a byte is the first one of a character in UTF-8.
 fn begins_character(byte: u8) -> bool
     ensures { result ≡ positions.begins_character byte }
@@ -38,22 +22,26 @@ fn begins_character(byte: u8) -> bool
     !(byte >= 128 && byte < 192)
 }
 
-/// Returns the column of an offset, given that of an earlier one.
-fn column_at(text: &[u8], from: usize, column: usize, to: usize) -> usize
+/// Returns the position of an offset, given that of an earlier one.
+fn position_at(text: &[u8], from: usize, position: Position, to: usize) -> Position
     requires ordered { from ≤ to }
     requires inside { to < length text.now }
-    requires begins { column ≡ spec.column_at text.now from }
-    ensures { result ≡ spec.column_at text.now to }
+    requires line { position.line ≡ spec.line_at text.now from }
+    requires column { position.column ≡ spec.column_at text.now from }
+    ensures line { result.line ≡ spec.line_at text.now to }
+    ensures column { result.column ≡ spec.column_at text.now to }
 {
-    let mut column = column;
+    let mut line = position.line;
+    let mut column = position.column;
     for i in from..to {
         if text[i] == b'\n' {
+            line += 1;
             column = 1;
         } else if begins_character(text[i]) {
             column += 1;
         }
     }
-    column
+    Position { line, column }
 }
 
 impl<'a> Ruler<'a> {
@@ -80,10 +68,7 @@ impl<'a> Ruler<'a> {
         if offset < self.offset || offset >= self.text.len() {
             return position_of(self.text, offset);
         }
-        self.position = Position {
-            line: line_at(self.text, self.offset, self.position.line, offset),
-            column: column_at(self.text, self.offset, self.position.column, offset),
-        };
+        self.position = position_at(self.text, self.offset, self.position, offset);
         self.offset = offset;
         self.position
     }
