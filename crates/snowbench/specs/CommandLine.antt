@@ -21,15 +21,15 @@ required_rule name = record (new_rule name) { required = true }
 abbrev pub flag : Text → Rule
 flag name = record (new_rule name) { long = Some name; action = Some SetTrue }
 
--- `--as FORM`: an option with one value
-abbrev pub form_rule : Rule
-form_rule = record (new_rule (codes "as")) { long = Some (codes "as"); value_names = 1 }
+-- `--NAME VALUE`: an option with one value
+abbrev pub value_rule : Text → Rule
+value_rule name = record (new_rule name) { long = Some name; value_names = 1 }
 
 -- `run` has three files, a flag, and the form of a list
 abbrev pub run_app : App
 run_app =
     with_rule (with_rule (with_rule (with_rule (with_rule (verb_app (codes "run")) (required_rule (codes "SCRIPT"))) (new_rule (codes "WORDS")))
-    (new_rule (codes "COMMANDS"))) (flag (codes "strict"))) form_rule
+    (new_rule (codes "COMMANDS"))) (flag (codes "strict"))) (value_rule (codes "as"))
 
 -- `session` and `stem` have flags
 abbrev pub session_app : App
@@ -55,19 +55,11 @@ compare_app =
     with_rule (with_rule (with_rule (with_rule (verb_app (codes "compare")) (required_rule (codes "OLD"))) (required_rule (codes "NEW")))
     (required_rule (codes "WORDS"))) (flag (codes "rows"))
 
--- `--from TEXT`: an option with one value
-abbrev pub from_rule : Rule
-from_rule = record (new_rule (codes "from")) { long = Some (codes "from"); value_names = 1 }
-
--- `--stop FILE`: an option with one value
-abbrev pub stop_rule : Rule
-stop_rule = record (new_rule (codes "stop")) { long = Some (codes "stop"); value_names = 1 }
-
 -- `work` has two files, the faces of its answers, the text that it begins with, and the file that breaks an edit off
 abbrev pub work_app : App
 work_app =
     with_rule (with_rule (with_rule (with_rule (with_rule (with_rule (verb_app (codes "work")) (required_rule (codes "SCRIPT")))
-    (new_rule (codes "WORDS"))) (flag (codes "rows"))) (flag (codes "text"))) from_rule) stop_rule
+    (new_rule (codes "WORDS"))) (flag (codes "rows"))) (flag (codes "text"))) (value_rule (codes "from"))) (value_rule (codes "stop"))
 
 -- the program itself
 abbrev pub top : App

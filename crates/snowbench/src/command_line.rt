@@ -3,7 +3,7 @@ ghost use Rattle.std.specs.Prelude.{◌≡◌, IfOk, None, Some, codes, false, m
 ghost use Rattle.std.specs.String.{string_bytes};
 ghost use Rattle.clap.specs.Walk.{rule_of};
 ghost use Rattle.clap.specs.Words.{Text, app_of, first_value, found_of, new_rule, one_text};
-ghost use Rattle.snowbench.specs.CommandLine.{IsFlag, IsGiven, IsMissing, IsVerb, LacksFlag, check_app, compare_app, flag, flag_in, form_rule, from_rule, program, required_rule, run_app, session_app, stem_app, stop_rule, filter_app, value_in, verb_app, verb_and_external, work_app};
+ghost use Rattle.snowbench.specs.CommandLine.{IsFlag, IsGiven, IsMissing, IsVerb, LacksFlag, check_app, compare_app, flag, flag_in, program, required_rule, run_app, session_app, stem_app, filter_app, value_in, value_rule, verb_app, verb_and_external, work_app};
 
 use clap::error::ErrorKind;
 use clap::{Arg, ArgAction, ArgMatches, Command, Error};
@@ -287,37 +287,13 @@ fn required_file<'a>(alloc: Global, name: &'a str, help: &'a str) -> Arg<'a>
     Arg::new(alloc, name).required(true).help(help)
 }
 
-/// Returns the definition of `--from TEXT`.
-fn from_arg<'a>(alloc: Global) -> Arg<'a>
-    ensures rule { rule_of result ≡ from_rule }
+/// Returns the definition of an option with one value.
+fn value_arg<'a>(alloc: Global, name: &'a str, value: &'a str, help: &'a str) -> Arg<'a>
+    ensures rule { rule_of result ≡ value_rule name.entry.now }
     ensures here { result.global ≡ false }
 {
-    Arg::new(alloc, "from")
-        .long("from")
-        .value_name("TEXT")
-        .help(FROM_HELP)
-}
-
-/// Returns the definition of `--stop FILE`.
-fn stop_arg<'a>(alloc: Global) -> Arg<'a>
-    ensures rule { rule_of result ≡ stop_rule }
-    ensures here { result.global ≡ false }
-{
-    Arg::new(alloc, "stop")
-        .long("stop")
-        .value_name("FILE")
-        .help(STOP_HELP)
-}
-
-/// Returns the definition of `--as FORM`.
-fn form_arg<'a>(alloc: Global) -> Arg<'a>
-    ensures rule { rule_of result ≡ form_rule }
-    ensures here { result.global ≡ false }
-{
-    Arg::new(alloc, "as")
-        .long("as")
-        .value_name("FORM")
-        .help(FORM_HELP)
+    let arg = Arg::new(alloc, name).long(name);
+    arg.value_name(value).help(help)
 }
 
 /// Returns the definition of an option without a value.
@@ -341,7 +317,7 @@ fn run_command<'a>(alloc: Global) -> Result<Command<'a>, AllocError>
         .arg(file_arg(alloc, "WORDS", WORDS_HELP))?
         .arg(file_arg(alloc, "COMMANDS", "The file of the commands"))?
         .arg(flag_arg(alloc, "strict", STRICT_HELP))?
-        .arg(form_arg(alloc))
+        .arg(value_arg(alloc, "as", "FORM", FORM_HELP))
 }
 
 /// Returns the definition of `session`: a subcommand with the flags `--strict` and `--places`.
@@ -407,8 +383,8 @@ fn work_command<'a>(alloc: Global) -> Result<Command<'a>, AllocError>
         .arg(file_arg(alloc, "WORDS", WORDS_HELP))?
         .arg(flag_arg(alloc, "rows", ROWS_HELP))?
         .arg(flag_arg(alloc, "text", "Answers in text, for people"))?
-        .arg(from_arg(alloc))?
-        .arg(stop_arg(alloc))
+        .arg(value_arg(alloc, "from", "TEXT", FROM_HELP))?
+        .arg(value_arg(alloc, "stop", "FILE", STOP_HELP))
 }
 
 /// Returns the text of an argument, if it is given. Returns `AllocError` if an allocation fails.

@@ -26,166 +26,35 @@ value_is words name f id e = first_value-rows f id ∙ sym (ap (option_and_then 
 flag_is : (words : List Text) (name : Text) (f : Found) (id : Text) → subcommand_of program words ≡ Some (name, rows_of f) → one_text f id ≡ flag_in id words
 flag_is words name f id e = one_text-rows f id ∙ sym (ap (option_and_then (λ (p : Text × List Row). one_of id p.1)) e)
 
-pub returns-clause-subcommand : goal.returns-clause-subcommand
-returns-clause-subcommand c =
+pub returns : goal.returns
+returns c =
     let words = map string_bytes c.args.words.now in
     let entered = (c.in_ok-matches.ensures.matches (ap is_simple c.in_ok-make_program.ensures ∙ refl)).1 in
     let program_is : subcommand_of program words ≡ subcommand_rows_of c.in_ok-matches.matches = sym (entered ∙ ap (λ (a : App). subcommand_of a words) c.in_ok-make_program.ensures) in
-    let options = rows_of (found_of c.in-Some.options.now) in
-    let entered_is : subcommand_rows_of c.in_ok-matches.matches ≡ Some (c.in-Some.name.now, options) = both _ _ _ _ _ (sym c.in-Some.ensures.name) (sym c.in-Some.ensures.rows) in
-    let found : first_of (codes "external") options ≡ Some c.in-Some-get_str.external.now = sym (first_value-rows (found_of c.in-Some.options.now) (codes "external")) ∙ sym c.in-Some-get_str.ensures in
-    let verb_is : IsVerb c.in-Some.name.now c.match-name.verb = elim c.match-name.branch [ in-run w ↦ search rules | in-session w ↦ search rules | in-stem w ↦ search rules | in-filter w ↦ search rules | in-check w ↦ search rules | in-compare w ↦ search rules | in-work w ↦ search rules ] in
+    let name = c.in-Some.name.now in
+    let f = found_of c.in-Some.options.now in
+    let entered_is : subcommand_rows_of c.in_ok-matches.matches ≡ Some (name, rows_of f) = both _ _ _ _ _ (sym c.in-Some.ensures.name) (sym c.in-Some.ensures.rows) in
+    let is = program_is ∙ entered_is in
+    let found : first_of (codes "external") (rows_of f) ≡ Some c.in-Some-get_str.external.now = sym (first_value-rows f (codes "external")) ∙ sym c.in-Some-get_str.ensures in
+    let verb_is : IsVerb name c.match-name.verb = elim c.match-name.branch [ in-run w ↦ search rules | in-session w ↦ search rules | in-stem w ↦ search rules | in-filter w ↦ search rules | in-check w ↦ search rules | in-compare w ↦ search rules | in-work w ↦ search rules ] in
     let same : string_bytes c.in_ok-from_str.field-0 ≡ c.in-Some-get_str.external.now = c.in_ok-from_str.ensures.ok in
-    let texts : option_and_then pick (subcommand_of program words) ≡ Some (c.in-Some.name.now, string_bytes c.in_ok-from_str.field-0) =
-    ap (option_and_then pick) (program_is ∙ entered_is) ∙ ap (option_map (λ (name : Text). (c.in-Some.name.now, name))) found ∙ ap (λ (b : Text). Some (c.in-Some.name.now, b)) (sym same) in
-    (c.in-Some.name.now, texts, verb_is)
-
-pub returns-clause-script : goal.returns-clause-script
-returns-clause-script c =
-    let words = map string_bytes c.args.words.now in
-    let entered = (c.in_ok-matches.ensures.matches (ap is_simple c.in_ok-make_program.ensures ∙ refl)).1 in
-    let program_is : subcommand_of program words ≡ subcommand_rows_of c.in_ok-matches.matches = sym (entered ∙ ap (λ (a : App). subcommand_of a words) c.in_ok-make_program.ensures) in
-    let f = found_of c.in-Some.options.now in
-    let entered_is : subcommand_rows_of c.in_ok-matches.matches ≡ Some (c.in-Some.name.now, rows_of f) = both _ _ _ _ _ (sym c.in-Some.ensures.name) (sym c.in-Some.ensures.rows) in
-    let is = program_is ∙ entered_is in
-    c.in_ok-script.ensures ∙ value_is words c.in-Some.name.now f (codes "SCRIPT") is
-
-pub returns-clause-old : goal.returns-clause-old
-returns-clause-old c =
-    let words = map string_bytes c.args.words.now in
-    let entered = (c.in_ok-matches.ensures.matches (ap is_simple c.in_ok-make_program.ensures ∙ refl)).1 in
-    let program_is : subcommand_of program words ≡ subcommand_rows_of c.in_ok-matches.matches = sym (entered ∙ ap (λ (a : App). subcommand_of a words) c.in_ok-make_program.ensures) in
-    let f = found_of c.in-Some.options.now in
-    let entered_is : subcommand_rows_of c.in_ok-matches.matches ≡ Some (c.in-Some.name.now, rows_of f) = both _ _ _ _ _ (sym c.in-Some.ensures.name) (sym c.in-Some.ensures.rows) in
-    let is = program_is ∙ entered_is in
-    c.in_ok-old.ensures ∙ value_is words c.in-Some.name.now f (codes "OLD") is
-
-pub returns-clause-new : goal.returns-clause-new
-returns-clause-new c =
-    let words = map string_bytes c.args.words.now in
-    let entered = (c.in_ok-matches.ensures.matches (ap is_simple c.in_ok-make_program.ensures ∙ refl)).1 in
-    let program_is : subcommand_of program words ≡ subcommand_rows_of c.in_ok-matches.matches = sym (entered ∙ ap (λ (a : App). subcommand_of a words) c.in_ok-make_program.ensures) in
-    let f = found_of c.in-Some.options.now in
-    let entered_is : subcommand_rows_of c.in_ok-matches.matches ≡ Some (c.in-Some.name.now, rows_of f) = both _ _ _ _ _ (sym c.in-Some.ensures.name) (sym c.in-Some.ensures.rows) in
-    let is = program_is ∙ entered_is in
-    c.in_ok-new.ensures ∙ value_is words c.in-Some.name.now f (codes "NEW") is
-
-pub returns-clause-words : goal.returns-clause-words
-returns-clause-words c =
-    let words = map string_bytes c.args.words.now in
-    let entered = (c.in_ok-matches.ensures.matches (ap is_simple c.in_ok-make_program.ensures ∙ refl)).1 in
-    let program_is : subcommand_of program words ≡ subcommand_rows_of c.in_ok-matches.matches = sym (entered ∙ ap (λ (a : App). subcommand_of a words) c.in_ok-make_program.ensures) in
-    let f = found_of c.in-Some.options.now in
-    let entered_is : subcommand_rows_of c.in_ok-matches.matches ≡ Some (c.in-Some.name.now, rows_of f) = both _ _ _ _ _ (sym c.in-Some.ensures.name) (sym c.in-Some.ensures.rows) in
-    let is = program_is ∙ entered_is in
-    c.in_ok-list.ensures ∙ value_is words c.in-Some.name.now f (codes "WORDS") is
-
-pub returns-clause-commands : goal.returns-clause-commands
-returns-clause-commands c =
-    let words = map string_bytes c.args.words.now in
-    let entered = (c.in_ok-matches.ensures.matches (ap is_simple c.in_ok-make_program.ensures ∙ refl)).1 in
-    let program_is : subcommand_of program words ≡ subcommand_rows_of c.in_ok-matches.matches = sym (entered ∙ ap (λ (a : App). subcommand_of a words) c.in_ok-make_program.ensures) in
-    let f = found_of c.in-Some.options.now in
-    let entered_is : subcommand_rows_of c.in_ok-matches.matches ≡ Some (c.in-Some.name.now, rows_of f) = both _ _ _ _ _ (sym c.in-Some.ensures.name) (sym c.in-Some.ensures.rows) in
-    let is = program_is ∙ entered_is in
-    c.in_ok-commands.ensures ∙ value_is words c.in-Some.name.now f (codes "COMMANDS") is
-
-pub returns-clause-stems : goal.returns-clause-stems
-returns-clause-stems c =
-    let words = map string_bytes c.args.words.now in
-    let entered = (c.in_ok-matches.ensures.matches (ap is_simple c.in_ok-make_program.ensures ∙ refl)).1 in
-    let program_is : subcommand_of program words ≡ subcommand_rows_of c.in_ok-matches.matches = sym (entered ∙ ap (λ (a : App). subcommand_of a words) c.in_ok-make_program.ensures) in
-    let f = found_of c.in-Some.options.now in
-    let entered_is : subcommand_rows_of c.in_ok-matches.matches ≡ Some (c.in-Some.name.now, rows_of f) = both _ _ _ _ _ (sym c.in-Some.ensures.name) (sym c.in-Some.ensures.rows) in
-    let is = program_is ∙ entered_is in
-    c.in_ok-stems.ensures ∙ value_is words c.in-Some.name.now f (codes "STEMS") is
-
-pub returns-clause-from : goal.returns-clause-from
-returns-clause-from c =
-    let words = map string_bytes c.args.words.now in
-    let entered = (c.in_ok-matches.ensures.matches (ap is_simple c.in_ok-make_program.ensures ∙ refl)).1 in
-    let program_is : subcommand_of program words ≡ subcommand_rows_of c.in_ok-matches.matches = sym (entered ∙ ap (λ (a : App). subcommand_of a words) c.in_ok-make_program.ensures) in
-    let f = found_of c.in-Some.options.now in
-    let entered_is : subcommand_rows_of c.in_ok-matches.matches ≡ Some (c.in-Some.name.now, rows_of f) = both _ _ _ _ _ (sym c.in-Some.ensures.name) (sym c.in-Some.ensures.rows) in
-    let is = program_is ∙ entered_is in
-    c.in_ok-from.ensures ∙ value_is words c.in-Some.name.now f (codes "from") is
-
-pub returns-clause-stop : goal.returns-clause-stop
-returns-clause-stop c =
-    let words = map string_bytes c.args.words.now in
-    let entered = (c.in_ok-matches.ensures.matches (ap is_simple c.in_ok-make_program.ensures ∙ refl)).1 in
-    let program_is : subcommand_of program words ≡ subcommand_rows_of c.in_ok-matches.matches = sym (entered ∙ ap (λ (a : App). subcommand_of a words) c.in_ok-make_program.ensures) in
-    let f = found_of c.in-Some.options.now in
-    let entered_is : subcommand_rows_of c.in_ok-matches.matches ≡ Some (c.in-Some.name.now, rows_of f) = both _ _ _ _ _ (sym c.in-Some.ensures.name) (sym c.in-Some.ensures.rows) in
-    let is = program_is ∙ entered_is in
-    c.in_ok-stop.ensures ∙ value_is words c.in-Some.name.now f (codes "stop") is
-
-pub returns-clause-form : goal.returns-clause-form
-returns-clause-form c =
-    let words = map string_bytes c.args.words.now in
-    let entered = (c.in_ok-matches.ensures.matches (ap is_simple c.in_ok-make_program.ensures ∙ refl)).1 in
-    let program_is : subcommand_of program words ≡ subcommand_rows_of c.in_ok-matches.matches = sym (entered ∙ ap (λ (a : App). subcommand_of a words) c.in_ok-make_program.ensures) in
-    let f = found_of c.in-Some.options.now in
-    let entered_is : subcommand_rows_of c.in_ok-matches.matches ≡ Some (c.in-Some.name.now, rows_of f) = both _ _ _ _ _ (sym c.in-Some.ensures.name) (sym c.in-Some.ensures.rows) in
-    let is = program_is ∙ entered_is in
-    c.in_ok-form.ensures ∙ value_is words c.in-Some.name.now f (codes "as") is
-
-pub returns-clause-rows : goal.returns-clause-rows
-returns-clause-rows c given =
-    let words = map string_bytes c.args.words.now in
-    let entered = (c.in_ok-matches.ensures.matches (ap is_simple c.in_ok-make_program.ensures ∙ refl)).1 in
-    let program_is : subcommand_of program words ≡ subcommand_rows_of c.in_ok-matches.matches = sym (entered ∙ ap (λ (a : App). subcommand_of a words) c.in_ok-make_program.ensures) in
-    let f = found_of c.in-Some.options.now in
-    let entered_is : subcommand_rows_of c.in_ok-matches.matches ≡ Some (c.in-Some.name.now, rows_of f) = both _ _ _ _ _ (sym c.in-Some.ensures.name) (sym c.in-Some.ensures.rows) in
-    let is = program_is ∙ entered_is in
-    c.face_of-face.ensures.rows (flag_is words c.in-Some.name.now f (codes "rows") is ∙ given)
-
-pub returns-clause-text : goal.returns-clause-text
-returns-clause-text c given also =
-    let words = map string_bytes c.args.words.now in
-    let entered = (c.in_ok-matches.ensures.matches (ap is_simple c.in_ok-make_program.ensures ∙ refl)).1 in
-    let program_is : subcommand_of program words ≡ subcommand_rows_of c.in_ok-matches.matches = sym (entered ∙ ap (λ (a : App). subcommand_of a words) c.in_ok-make_program.ensures) in
-    let f = found_of c.in-Some.options.now in
-    let entered_is : subcommand_rows_of c.in_ok-matches.matches ≡ Some (c.in-Some.name.now, rows_of f) = both _ _ _ _ _ (sym c.in-Some.ensures.name) (sym c.in-Some.ensures.rows) in
-    let is = program_is ∙ entered_is in
-    c.face_of-face.ensures.text (flag_is words c.in-Some.name.now f (codes "rows") is ∙ given) (flag_is words c.in-Some.name.now f (codes "text") is ∙ also)
-
-pub returns-clause-neither : goal.returns-clause-neither
-returns-clause-neither c given also =
-    let words = map string_bytes c.args.words.now in
-    let entered = (c.in_ok-matches.ensures.matches (ap is_simple c.in_ok-make_program.ensures ∙ refl)).1 in
-    let program_is : subcommand_of program words ≡ subcommand_rows_of c.in_ok-matches.matches = sym (entered ∙ ap (λ (a : App). subcommand_of a words) c.in_ok-make_program.ensures) in
-    let f = found_of c.in-Some.options.now in
-    let entered_is : subcommand_rows_of c.in_ok-matches.matches ≡ Some (c.in-Some.name.now, rows_of f) = both _ _ _ _ _ (sym c.in-Some.ensures.name) (sym c.in-Some.ensures.rows) in
-    let is = program_is ∙ entered_is in
-    c.face_of-face.ensures.neither (flag_is words c.in-Some.name.now f (codes "rows") is ∙ given) (flag_is words c.in-Some.name.now f (codes "text") is ∙ also)
-
-pub returns-clause-rows_alone : goal.returns-clause-rows_alone
-returns-clause-rows_alone c given also =
-    let words = map string_bytes c.args.words.now in
-    let entered = (c.in_ok-matches.ensures.matches (ap is_simple c.in_ok-make_program.ensures ∙ refl)).1 in
-    let program_is : subcommand_of program words ≡ subcommand_rows_of c.in_ok-matches.matches = sym (entered ∙ ap (λ (a : App). subcommand_of a words) c.in_ok-make_program.ensures) in
-    let f = found_of c.in-Some.options.now in
-    let entered_is : subcommand_rows_of c.in_ok-matches.matches ≡ Some (c.in-Some.name.now, rows_of f) = both _ _ _ _ _ (sym c.in-Some.ensures.name) (sym c.in-Some.ensures.rows) in
-    let is = program_is ∙ entered_is in
-    c.face_of-face.ensures.rows_alone (flag_is words c.in-Some.name.now f (codes "rows") is ∙ given) (flag_is words c.in-Some.name.now f (codes "text") is ∙ also)
-
-pub returns-clause-strict : goal.returns-clause-strict
-returns-clause-strict c =
-    let words = map string_bytes c.args.words.now in
-    let entered = (c.in_ok-matches.ensures.matches (ap is_simple c.in_ok-make_program.ensures ∙ refl)).1 in
-    let program_is : subcommand_of program words ≡ subcommand_rows_of c.in_ok-matches.matches = sym (entered ∙ ap (λ (a : App). subcommand_of a words) c.in_ok-make_program.ensures) in
-    let f = found_of c.in-Some.options.now in
-    let entered_is : subcommand_rows_of c.in_ok-matches.matches ≡ Some (c.in-Some.name.now, rows_of f) = both _ _ _ _ _ (sym c.in-Some.ensures.name) (sym c.in-Some.ensures.rows) in
-    let is = program_is ∙ entered_is in
-    rw (← flag_is words c.in-Some.name.now f (codes "strict") is) c.has_flag-is_strict.ensures
-
-pub returns-clause-places : goal.returns-clause-places
-returns-clause-places c =
-    let words = map string_bytes c.args.words.now in
-    let entered = (c.in_ok-matches.ensures.matches (ap is_simple c.in_ok-make_program.ensures ∙ refl)).1 in
-    let program_is : subcommand_of program words ≡ subcommand_rows_of c.in_ok-matches.matches = sym (entered ∙ ap (λ (a : App). subcommand_of a words) c.in_ok-make_program.ensures) in
-    let f = found_of c.in-Some.options.now in
-    let entered_is : subcommand_rows_of c.in_ok-matches.matches ≡ Some (c.in-Some.name.now, rows_of f) = both _ _ _ _ _ (sym c.in-Some.ensures.name) (sym c.in-Some.ensures.rows) in
-    let is = program_is ∙ entered_is in
-    rw (← flag_is words c.in-Some.name.now f (codes "places") is) c.has_flag-shows_places.ensures
+    let texts : option_and_then pick (subcommand_of program words) ≡ Some (name, string_bytes c.in_ok-from_str.field-0) =
+    ap (option_and_then pick) is ∙ ap (option_map (λ (external : Text). (name, external))) found ∙ ap (λ (b : Text). Some (name, b)) (sym same) in
+    record {
+      subcommand = (name, texts, verb_is);
+      script = c.in_ok-script.ensures ∙ value_is words name f (codes "SCRIPT") is;
+      old = c.in_ok-old.ensures ∙ value_is words name f (codes "OLD") is;
+      new = c.in_ok-new.ensures ∙ value_is words name f (codes "NEW") is;
+      words = c.in_ok-list.ensures ∙ value_is words name f (codes "WORDS") is;
+      commands = c.in_ok-commands.ensures ∙ value_is words name f (codes "COMMANDS") is;
+      stems = c.in_ok-stems.ensures ∙ value_is words name f (codes "STEMS") is;
+      from = c.in_ok-from.ensures ∙ value_is words name f (codes "from") is;
+      stop = c.in_ok-stop.ensures ∙ value_is words name f (codes "stop") is;
+      form = c.in_ok-form.ensures ∙ value_is words name f (codes "as") is;
+      strict = rw (← flag_is words name f (codes "strict") is) c.has_flag-is_strict.ensures;
+      places = rw (← flag_is words name f (codes "places") is) c.has_flag-shows_places.ensures;
+      rows = λ given. c.face_of-face.ensures.rows (flag_is words name f (codes "rows") is ∙ given);
+      text = λ given also. c.face_of-face.ensures.text (flag_is words name f (codes "rows") is ∙ given) (flag_is words name f (codes "text") is ∙ also);
+      neither = λ given also. c.face_of-face.ensures.neither (flag_is words name f (codes "rows") is ∙ given) (flag_is words name f (codes "text") is ∙ also);
+      rows_alone = λ given also. c.face_of-face.ensures.rows_alone (flag_is words name f (codes "rows") is ∙ given) (flag_is words name f (codes "text") is ∙ also);
+    }

@@ -9,4 +9,4 @@ returns c =
     let second = c.in_ok-arg-2.ensures.shape c.file_arg.ensures.here ∙ ap₂ with_rule first c.file_arg.ensures.rule in
     let third = c.in_ok-arg-3.ensures.shape c.file_arg-2.ensures.here ∙ ap₂ with_rule second c.file_arg-2.ensures.rule in
     let fourth = c.in_ok-arg-4.ensures.shape c.flag_arg.ensures.here ∙ ap₂ with_rule third c.flag_arg.ensures.rule in
-    IfOk-weaker c.arg-5.result _ _ (λ r h. h.shape c.form_arg.ensures.here ∙ ap₂ with_rule fourth c.form_arg.ensures.rule) c.arg-5.ensures
+    IfOk-weaker c.arg-5.result _ _ (λ r h. h.shape c.value_arg.ensures.here ∙ ap₂ with_rule fourth c.value_arg.ensures.rule) c.arg-5.ensures
