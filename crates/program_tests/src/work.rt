@@ -1,7 +1,7 @@
 //! Tests of work: the order of the replies, the prompts, and what ends it. tests/run tries the commands of work as a program.
 
 use sbl_io::{Device, Lines};
-use sbl_work::{Paths, work};
+use sbl_work::{NoObserver, Paths, work};
 use std::alloc::Global;
 use std::fs;
 use std::hash::RandomState;
@@ -58,6 +58,7 @@ fn work_over(
         &mut lines,
         &mut writer,
         &mut errors,
+        &mut NoObserver {},
     );
     fs::remove_file(rt, file)?;
     let mut rest = Vec::new(alloc);

@@ -23,4 +23,4 @@ mod word_files;
 
 pub use files::Paths;
 pub use observing::{NoObserver, Observer, RefusedSource};
-pub use serving::{work, work_observed};
+pub use serving::work;

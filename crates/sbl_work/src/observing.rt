@@ -49,34 +49,34 @@ fn is_of_text(edited: Result<(), EditFault>) -> bool {
     )
 }
 
-/// Returns the text of a block after this line, if the edit was refused for it; `None` also if an allocation fails.
-pub(crate) fn refused_block(
-    alloc: Global,
-    line: &str,
-    text: &[u8],
-    edited: Result<(), EditFault>,
-) -> Option<RefusedSource> {
-    if !is_of_text(edited) {
-        return None;
-    }
-    match (String::from_str(alloc, line), Vec::from_slice(alloc, text)) {
-        (Ok(line), Ok(text)) => Some(RefusedSource::Block { line, text }),
-        _ => None,
-    }
+/// The line before a block, or the name of a file.
+#[derive(Clone, Copy)]
+pub(crate) enum Origin<'a> {
+    Block(&'a str),
+    File(&'a str),
 }
 
-/// Returns the text of a file, if the edit was refused for it; `None` also if an allocation fails.
-pub(crate) fn refused_file(
+/// Returns a text and where it is from, if the edit was refused for it; `None` also if an allocation fails.
+pub(crate) fn refused_source(
     alloc: Global,
-    path: &str,
+    origin: Origin<'_>,
     text: &[u8],
     edited: Result<(), EditFault>,
 ) -> Option<RefusedSource> {
     if !is_of_text(edited) {
         return None;
     }
-    match (String::from_str(alloc, path), Vec::from_slice(alloc, text)) {
-        (Ok(path), Ok(text)) => Some(RefusedSource::File { path, text }),
+    let name = match origin {
+        Origin::Block(line) => line,
+        Origin::File(path) => path,
+    };
+    match (
+        origin,
+        String::from_str(alloc, name),
+        Vec::from_slice(alloc, text),
+    ) {
+        (Origin::Block(_), Ok(line), Ok(text)) => Some(RefusedSource::Block { line, text }),
+        (Origin::File(_), Ok(path), Ok(text)) => Some(RefusedSource::File { path, text }),
         _ => None,
     }
 }

@@ -12,7 +12,7 @@ ghost use Rattle.sbl_work.specs.Replies.{ReplacesKept};
 ghost use Rattle.sbl_script.specs.Parts.{view_part};
 ghost use Rattle.sbl_work.specs.ReplyViews.{Answers, FindsBlock, IsFamiliesAnswer, IsKeptPart, IsPartResult, IsWorkAnswer, NamesText};
 
-use crate::observing::{RefusedSource, refused_block};
+use crate::observing::{Origin, RefusedSource, refused_source};
 use crate::refusals::{note_part, note_whole};
 use crate::replies::{NOT_TEXT, edit_reply};
 use crate::requests::BlockRequest;
@@ -49,7 +49,7 @@ fn replace_by<B: BreakOff>(
     match text_of(block) {
         Ok(text) => {
             let answer = desk.replace(bench, &text, break_off);
-            *refused = refused_block(alloc, "replace", &text, answer);
+            *refused = refused_source(alloc, Origin::Block("replace"), &text, answer);
             note_whole(desk, answer, Refused::Whole(text))
         }
         Err(fault) => note_whole(desk, Err(fault), Refused::TooLong),
@@ -91,7 +91,7 @@ fn replace_part_kept<B: BreakOff>(
 {
     let held = HeldPart::copy_of(alloc, part)?;
     let answer = replace_part_by(alloc, desk, bench, part, &typed, break_off);
-    *refused = refused_block(alloc, line, &typed, answer);
+    *refused = refused_source(alloc, Origin::Block(line), &typed, answer);
     note_part(desk, answer, held, typed)
 }
 

@@ -7,7 +7,7 @@ ghost use Rattle.sbl_work.specs.ReplyViews.{IsWorkAnswer};
 
 use crate::answers::{reload, replace_by_bytes};
 use crate::files::Paths;
-use crate::observing::{RefusedSource, refused_file};
+use crate::observing::{Origin, RefusedSource, refused_source};
 use crate::replies::edit_reply;
 use sbl_bench::{Bench, BreakOff, EditFault};
 use sbl_history::Desk;
@@ -29,7 +29,7 @@ fn replace_by_text<B: BreakOff>(
     ensures { IsWorkAnswer (contents_of bench.old) (state_of desk.old) (spec.with_file spec.EditWhole (Some bytes.now)) result (contents_of bench.new) (state_of desk.new) }
 {
     let answer = replace_by_bytes(alloc, desk, bench, bytes, break_off);
-    *refused = refused_file(alloc, path, bytes, answer);
+    *refused = refused_source(alloc, Origin::File(path), bytes, answer);
     edit_reply(answer)
 }
 

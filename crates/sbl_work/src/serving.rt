@@ -17,7 +17,7 @@ use crate::answers::answer_line;
 use crate::appending::Added;
 use crate::fault_replies::faults_by_file;
 use crate::files::{OpenFault, Paths, Texts, append, open, save};
-use crate::observing::{NoObserver, Observer, RefusedSource};
+use crate::observing::{Observer, RefusedSource};
 use crate::parts::answer_block;
 use crate::replies::edit_reply;
 use crate::requests::{Request, block_request, is_quit, request_of};
@@ -371,36 +371,9 @@ fn work_on<F: Files + AllocGlobal, R: Source + Drop, W: Sink, S: Observer>(
 /// Edits may be broken off if `paths` has a file for it: see `Paths::stop`.
 ///
 /// If a file cannot be read or has a fault, or an allocation for it fails, no line is read and nothing is written to `writer`.
-pub fn work<F: Files + AllocGlobal, R: Source + Drop, W: Sink, E: Sink>(
-    files: &F,
-    keys: RandomState,
-    paths: &Paths,
-    prompts: bool,
-    lines: &mut Lines<R>,
-    writer: &mut W,
-    errors: &mut E,
-) -> u8
-    ensures works { lines.old.fault ≡ None → WorksOver R.left R.tally W.held W.tally paths.now (serving.prompt_of prompts) lines.old lines.new writer.old writer.new result }
-    ensures quiet { result ≡ 0 → E.held errors.new ≡ E.held errors.old }
-    ensures status { result ≤ 1 }
-    ensures reads_in_time { KeepsTime R.tally lines.old lines.new }
-    ensures writes_in_time { WritesInTime W.tally writer.old writer.new }
-    ensures errors_in_time { WritesInTime E.tally errors.old errors.new }
-{
-    work_observed(
-        files,
-        keys,
-        paths,
-        prompts,
-        lines,
-        writer,
-        errors,
-        &mut NoObserver {},
-    )
-}
-
-/// Does what `work` does, and tells `observer` of each text of the script that is refused. What `observer` does has no part in the work.
-pub fn work_observed<F: Files + AllocGlobal, R: Source + Drop, W: Sink, E: Sink, S: Observer>(
+///
+/// Tells `observer` of each text of the script that is refused. What `observer` does has no part in the work.
+pub fn work<F: Files + AllocGlobal, R: Source + Drop, W: Sink, E: Sink, S: Observer>(
     files: &F,
     keys: RandomState,
     paths: &Paths,

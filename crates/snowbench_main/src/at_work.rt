@@ -3,7 +3,7 @@
 use crate::failures::random_keys;
 use crate::places::WorkPlaces;
 use sbl_messages::{Failure, REFUSED};
-use sbl_work::{NoObserver, Observer, Paths, work_observed};
+use sbl_work::{NoObserver, Observer, Paths, work};
 use snowbench::{Device, Face, Lines, Wanted};
 use std::hash::RandomState;
 use std::io::IsTerminal;
@@ -44,7 +44,7 @@ fn work_over<S: Observer>(
     let mut lines = Lines::new(rt.alloc(), Device::new(rt.stdin()))?;
     let mut writer = Device::new(rt.stdout());
     let mut errors = Device::new(rt.stderr());
-    Ok(work_observed(
+    Ok(work(
         rt,
         keys,
         paths,

@@ -8,7 +8,7 @@ use sbl_io::write_all;
 use sbl_messages::{
     Failure, FileNames, Output, REFUSED, RunFiles, compare_failure, refuse_twice, words_of_pair,
 };
-use snowbench::{Device, Face, LoadFault, Progress, Verb, Wanted, WordKeys};
+use snowbench::{Device, Face, LoadFault, Progress, Verb, Wanted};
 use std::io::IsTerminal;
 
 /// The line if `compare` names standard input twice.
@@ -40,7 +40,6 @@ pub(crate) fn run_compare(rt: &HostRuntime, wanted: &Wanted) -> Result<u8, Failu
     };
     refuse_twice(names, NAMED_TWICE_BY_COMPARE)?;
     let files = read_compared(rt, names)?;
-    let keys = word_keys(rt)?;
     let input = CompareInput {
         external: wanted.external.as_str(),
         old: &files.script.bytes,
@@ -48,20 +47,20 @@ pub(crate) fn run_compare(rt: &HostRuntime, wanted: &Wanted) -> Result<u8, Failu
         words: &files.words.bytes,
     };
     if options.face == Some(Face::Rows) || !rt.stdout().is_terminal() {
-        compare_in_rows(rt, keys, &files, &input)
+        compare_in_rows(rt, &files, &input)
     } else {
-        compare_in_words(rt, keys, &files, &input)
+        compare_in_words(rt, &files, &input)
     }
 }
 
 /// Writes the rows of a comparison, and returns the exit status.
 fn compare_in_rows(
     rt: &HostRuntime,
-    keys: WordKeys,
     files: &RunFiles<'_>,
     input: &CompareInput<'_>,
 ) -> Result<u8, Failure> {
     let mut writer = Device::new(Output::new(rt.stdout()));
+    let keys = word_keys(rt)?;
     let mut progress = ProgressLine::new(rt, Verb::Compare);
     let written = write_comparison(rt.alloc(), keys, input, &mut writer, &mut progress);
     progress.see_end();
@@ -77,10 +76,10 @@ fn compare_in_rows(
 /// Writes a comparison in words, and returns the exit status.
 fn compare_in_words(
     rt: &HostRuntime,
-    keys: WordKeys,
     files: &RunFiles<'_>,
     input: &CompareInput<'_>,
 ) -> Result<u8, Failure> {
+    let keys = word_keys(rt)?;
     let mut progress = ProgressLine::new(rt, Verb::Compare);
     let opened = open_pair(rt.alloc(), keys, input, &mut progress);
     progress.see_end();

@@ -3,7 +3,7 @@ use Rattle.std.specs.Option.{is_some}
 use Rattle.sbl_io.specs.HeldInput.{input_of}
 use Rattle.sbl_sessions.specs.Session.{Ends}
 use Rattle.sbl_work.specs.WholeWork.{IsWholeWork}
-use Rattle.sbl_work.proofs.serving.work_observed.Goals as goal
+use Rattle.sbl_work.proofs.serving.work.Goals as goal
 
 pub returns-in-Ok-clause-works : goal.returns-in-Ok-clause-works
 returns-in-Ok-clause-works g c = λ none.
