@@ -15,6 +15,7 @@ use Rattle.sbl_ast.specs.Tree.{Groups, Plain, grouping}
 use Rattle.sbl_ast.specs.View.{view_among}
 use Rattle.sbl_ast.specs.declared.tree.Among.{Among}
 use Rattle.sbl_explain.specs.Parts.{Part}
+use Rattle.sbl_explain.specs.declared.unused.Used.{Used}
 use Rattle.sbl_explain.specs.Unused.{Take, is_met, is_taken, same_take}
 
 -- the groups of some amongs
@@ -75,3 +76,7 @@ HasMet s words met = (x : Part') → list_any (same_item x) (items_of_refs met) 
 -- the strings are those that the words take
 abbrev pub HasTaken : Setting → List (List ℕ) → BTreeSet Key → Type 0
 HasTaken s words taken = (t : Take) → list_any (same_take t) (takes_in taken) ≡ is_taken s words t
+
+-- this is what the words meet and take
+abbrev pub IsUsed : Setting → List (List ℕ) → Used → Type 0
+IsUsed s words used = HasMet s words used.met.now × HasTaken s words used.taken.now

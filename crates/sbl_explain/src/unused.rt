@@ -10,7 +10,7 @@ ghost use Rattle.sbl_io.specs.Records.{record_line};
 ghost use Rattle.sbl_io.specs.Reports.{TakesMore};
 ghost use Rattle.sbl_explain.specs.TakesRows.{TakesRows, parts_text};
 ghost use Rattle.sbl_explain.specs.Unused as spec;
-ghost use Rattle.sbl_explain.specs.UnusedViews.{HasMet, HasTaken, Words, part_of, parts_in, texts_of};
+ghost use Rattle.sbl_explain.specs.UnusedViews.{IsUsed, Words, part_of, parts_in, texts_of};
 ghost use Rattle.sbl_explain.specs.Kept.{KeepsWords};
 
 use crate::bench_words::words_of;
@@ -84,130 +84,122 @@ fn push_entry<T: Report>(
     out.push(&csv_record)
 }
 
+/// What the words of a vocabulary meet and take.
+struct Used<'s, 'a> {
+    alloc: Global,
+    met: &'s BTreeSet<ItemRef<'a>>,
+    taken: &'s Takes<'a>,
+}
+
 /// Appends the line of an item, unless a word meets it. Returns `AllocError` if an allocation fails.
 fn push_unmet<'a, T: Report>(
-    alloc: Global,
     out: &mut T,
-    met: &BTreeSet<ItemRef<'a>>,
+    used: &Used<'_, 'a>,
     item: &ItemRef<'a>,
 ) -> Result<(), AllocError>
-    ensures { (s : Setting) (ws : Words) → HasMet s ws met.now → OnOk result (TakesRows T.has_taken out.old out.new (spec.item_rows s ws (item_of_ref item.now))) }
+    ensures { (s : Setting) (ws : Words) → IsUsed s ws used.now → OnOk result (TakesRows T.has_taken out.old out.new (spec.item_rows s ws (item_of_ref item.now))) }
 {
-    if has_item(met, item) {
+    if has_item(used.met, item) {
         Ok(())
     } else {
-        push_item(alloc, out, item)
+        push_item(used.alloc, out, item)
     }
 }
 
 /// Appends the line of a string of an among, unless a word takes it there. Returns `AllocError` if an allocation fails.
 fn push_untaken<'a, T: Report>(
-    alloc: Global,
     out: &mut T,
-    taken: &Takes<'a>,
+    used: &Used<'_, 'a>,
     among: &ItemRef<'a>,
     string: &[char],
 ) -> Result<(), AllocError>
-    ensures { (s : Setting) (ws : Words) → HasTaken s ws taken.now → OnOk result (TakesRows T.has_taken out.old out.new (spec.string_rows s ws (item_of_ref among.now, string.now))) }
+    ensures { (s : Setting) (ws : Words) → IsUsed s ws used.now → OnOk result (TakesRows T.has_taken out.old out.new (spec.string_rows s ws (item_of_ref among.now, string.now))) }
 {
-    if has_take(alloc, taken, among, string)? {
+    if has_take(used.alloc, used.taken, among, string)? {
         Ok(())
     } else {
-        push_entry(alloc, out, among, string)
+        push_entry(used.alloc, out, among, string)
     }
 }
 
 /// Appends the lines of the strings of an among that no word takes there. Returns `AllocError` if an allocation fails.
 fn push_strings<'a, T: Report>(
-    alloc: Global,
     out: &mut T,
-    taken: &Takes<'a>,
+    used: &Used<'_, 'a>,
     among: &ItemRef<'a>,
     strings: &[&[char]],
 ) -> Result<(), AllocError>
-    ensures { (s : Setting) (ws : Words) → HasTaken s ws taken.now → OnOk result (TakesRows T.has_taken out.old out.new (spec.untaken_rows s ws (item_of_ref among.now) (texts_of strings.now))) }
+    ensures { (s : Setting) (ws : Words) → IsUsed s ws used.now → OnOk result (TakesRows T.has_taken out.old out.new (spec.untaken_rows s ws (item_of_ref among.now) (texts_of strings.now))) }
 {
     for string in strings {
-        push_untaken(alloc, out, taken, among, string)?;
+        push_untaken(out, used, among, string)?;
     }
     Ok(())
 }
 
 /// Appends the lines of the items that no word meets. Returns `AllocError` if an allocation fails.
 fn push_items<'a, T: Report>(
-    alloc: Global,
     out: &mut T,
-    met: &BTreeSet<ItemRef<'a>>,
+    used: &Used<'_, 'a>,
     parts: &Parts<'a>,
 ) -> Result<(), AllocError>
-    ensures { (s : Setting) (ws : Words) → HasMet s ws met.now → OnOk result (TakesRows T.has_taken out.old out.new (spec.unmet_rows s ws (parts_in parts.now))) }
+    ensures { (s : Setting) (ws : Words) → IsUsed s ws used.now → OnOk result (TakesRows T.has_taken out.old out.new (spec.unmet_rows s ws (parts_in parts.now))) }
 {
     for (item, _) in parts.iter() {
-        push_unmet(alloc, out, met, item)?;
+        push_unmet(out, used, item)?;
     }
     Ok(())
 }
 
 /// Appends the lines of the strings of one part, if a word meets it. Returns `AllocError` if an allocation fails.
 fn push_part<'a, T: Report>(
-    alloc: Global,
     out: &mut T,
-    met: &BTreeSet<ItemRef<'a>>,
-    taken: &Takes<'a>,
+    used: &Used<'_, 'a>,
     item: &ItemRef<'a>,
     strings: &[&[char]],
 ) -> Result<(), AllocError>
-    ensures { (s : Setting) (ws : Words) → HasMet s ws met.now → HasTaken s ws taken.now → OnOk result (TakesRows T.has_taken out.old out.new (spec.entry_rows s ws (part_of item.now strings.now))) }
+    ensures { (s : Setting) (ws : Words) → IsUsed s ws used.now → OnOk result (TakesRows T.has_taken out.old out.new (spec.entry_rows s ws (part_of item.now strings.now))) }
 {
-    if !has_item(met, item) {
+    if !has_item(used.met, item) {
         return Ok(());
     }
-    push_strings(alloc, out, taken, item, strings)
+    push_strings(out, used, item, strings)
 }
 
 /// Appends the lines of the strings that no word takes. Returns `AllocError` if an allocation fails.
 fn push_entries<'a, T: Report>(
-    alloc: Global,
     out: &mut T,
-    met: &BTreeSet<ItemRef<'a>>,
-    taken: &Takes<'a>,
+    used: &Used<'_, 'a>,
     parts: &Parts<'a>,
 ) -> Result<(), AllocError>
-    ensures { (s : Setting) (ws : Words) → HasMet s ws met.now → HasTaken s ws taken.now → OnOk result (TakesRows T.has_taken out.old out.new (flat_map (spec.entry_rows s ws) (parts_in parts.now))) }
+    ensures { (s : Setting) (ws : Words) → IsUsed s ws used.now → OnOk result (TakesRows T.has_taken out.old out.new (flat_map (spec.entry_rows s ws) (parts_in parts.now))) }
 {
     for (item, strings) in parts.iter() {
-        push_part(alloc, out, met, taken, item, strings)?;
+        push_part(out, used, item, strings)?;
     }
     Ok(())
 }
 
 /// Appends the lines of what no word uses. Returns `AllocError` if an allocation fails.
 fn push_rows<'a, T: Report>(
-    alloc: Global,
     out: &mut T,
-    met: &BTreeSet<ItemRef<'a>>,
-    taken: &Takes<'a>,
+    used: &Used<'_, 'a>,
     parts: &Parts<'a>,
 ) -> Result<(), AllocError>
-    ensures { (s : Setting) (ws : Words) → HasMet s ws met.now → HasTaken s ws taken.now → OnOk result (TakesRows T.has_taken out.old out.new (spec.rows_of_parts s ws (parts_in parts.now))) }
+    ensures { (s : Setting) (ws : Words) → IsUsed s ws used.now → OnOk result (TakesRows T.has_taken out.old out.new (spec.rows_of_parts s ws (parts_in parts.now))) }
 {
-    push_items(alloc, out, met, parts)?;
-    push_entries(alloc, out, met, taken, parts)
+    push_items(out, used, parts)?;
+    push_entries(out, used, parts)
 }
 
 /// Returns the rows of what no word uses, given what the words meet and take. Returns `AllocError` if an allocation fails.
-fn text_of_rows<'a>(
-    alloc: Global,
-    met: &BTreeSet<ItemRef<'a>>,
-    taken: &Takes<'a>,
-    parts: &Parts<'a>,
-) -> Result<Vec<u8>, AllocError>
-    ensures { (s : Setting) (ws : Words) → HasMet s ws met.now → HasTaken s ws taken.now → IfOk result (λ text. text.items ≡ parts_text s ws (parts_in parts.now)) }
+fn text_of_rows<'a>(used: &Used<'_, 'a>, parts: &Parts<'a>) -> Result<Vec<u8>, AllocError>
+    ensures { (s : Setting) (ws : Words) → IsUsed s ws used.now → IfOk result (λ text. text.items ≡ parts_text s ws (parts_in parts.now)) }
 {
     let mut length = ReportLength::new();
-    push_rows(alloc, &mut length, met, taken, parts)?;
-    let mut out = ReportText::with_length(alloc, &length)?;
-    push_rows(alloc, &mut out, met, taken, parts)?;
+    push_rows(&mut length, used, parts)?;
+    let mut out = ReportText::with_length(used.alloc, &length)?;
+    push_rows(&mut out, used, parts)?;
     out.into_bytes()
 }
 
@@ -219,7 +211,12 @@ fn text_of_unused(alloc: Global, bench: &Bench, words: &[KeptWord]) -> Result<Ve
     let all = words_of(alloc, bench)?;
     let met = met_by_words(alloc, bench, &all)?;
     let taken = takes_of_words(alloc, bench, words)?;
-    text_of_rows(alloc, &met, &taken, &parts)
+    let used = Used {
+        alloc,
+        met: &met,
+        taken: &taken,
+    };
+    text_of_rows(&used, &parts)
 }
 
 /// Returns the rows of what no word of the vocabulary uses, under the script and the limit of the bench: the routines, amongs and

@@ -9,15 +9,15 @@ use Rattle.sbl_explain.proofs.UnusedLines.{text_of_more}
 use Rattle.sbl_explain.proofs.unused.push_items.Goals as goal
 
 pub returns : goal.returns
-returns g c = λ s words met.
+returns g c = λ s words is.
     leaves-none g.T.Report.has_taken c.args.out.now c.loop-item.out _ _
     (ap (λ l. records_text (flat_map (λ (p : Part). spec.item_rows s words p.0) (view_parts l))) c.in-None.ensures.steps.0)
-    (c.loop-item.invariant s words met)
+    (c.loop-item.invariant s words is)
 
 pub loop-item-preserved : goal.loop-item-preserved
-loop-item-preserved g c = λ s words met.
+loop-item-preserved g c = λ s words is.
     let rows = λ (p : Part). spec.item_rows s words p.0 in
     leaves-less g.T.Report.has_taken c.args.out.now c.loop-item.out c.push_unmet.new.out _
     (records_text (flat_map rows (view_parts c.next.new.self))) (records_text (flat_map rows (view_parts c.loop-item.item-iterator))) _
     (text_of_more rows _ (view_parts c.loop-item.item-iterator) (view_parts c.next.new.self) (ap view_parts c.in-Some.ensures.steps))
-    (c.loop-item.invariant s words met) (c.in_ok-push_unmet.ensures s words met)
+    (c.loop-item.invariant s words is) (c.in_ok-push_unmet.ensures s words is)

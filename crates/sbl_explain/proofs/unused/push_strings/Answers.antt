@@ -12,21 +12,21 @@ use Rattle.sbl_explain.proofs.Loops.{at_index}
 use Rattle.sbl_explain.proofs.unused.push_strings.Goals as goal
 
 pub loop-string-init : goal.loop-string-init
-loop-string-init g c = λ s words taken. leaves-all g.T.Report.has_taken c.args.out.now _
+loop-string-init g c = λ s words is. leaves-all g.T.Report.has_taken c.args.out.now _
 
 pub loop-string-preserved : goal.loop-string-preserved
-loop-string-preserved g c = λ s words taken.
+loop-string-preserved g c = λ s words is.
     let strings = c.args.strings.now in
     let i = c.loop-string.string-index in
     let rows = λ (q : List ℕ). spec.string_rows s words (item_of_ref c.args.among.now, q) in
     leaves-less g.T.Report.has_taken c.args.out.now c.loop-string.out c.push_untaken.new.out _
     (records_text (flat_map rows (texts_of (drop (i + 1) strings)))) (records_text (flat_map rows (texts_of (drop i strings)))) _
     (text_of_more rows _ (texts_of (drop i strings)) (texts_of (drop (i + 1) strings)) (at_index (λ (t : Bor (List ℕ)). t.now) strings i _ c.loop-string-test.true))
-    (c.loop-string.invariant s words taken) (c.in_ok-push_untaken.ensures s words taken)
+    (c.loop-string.invariant s words is) (c.in_ok-push_untaken.ensures s words is)
 
 pub returns : goal.returns
-returns g c = λ s words taken.
+returns g c = λ s words is.
     let rows = λ (q : List ℕ). spec.string_rows s words (item_of_ref c.args.among.now, q) in
     leaves-none g.T.Report.has_taken c.args.out.now c.loop-string.out _ _
     (ap (λ (l : List (Bor (List ℕ))). records_text (flat_map rows (texts_of l))) (drop_of_length-le c.args.strings.now c.loop-string-test.false))
-    (c.loop-string.invariant s words taken)
+    (c.loop-string.invariant s words is)

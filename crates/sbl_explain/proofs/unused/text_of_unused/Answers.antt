@@ -20,4 +20,4 @@ returns c = λ keeps.
     let met : HasMet s words c.in_ok-met.met = c.in_ok-met.ensures are in
     let taken : HasTaken s words c.in_ok-taken.taken = λ t. c.in_ok-taken.ensures t ∙ taken_is s words c.args.words.now keeps.1 t in
     let parts : parts_in c.in_ok-parts.parts ≡ parts_of s.script = c.in_ok-parts.ensures ∙ ap (λ (p : ParsedScript). parts_of (source_of p)) c.script.ensures in
-    subst (λ (ps : List Part). IfOk c.text_of_rows.result (λ text. text.items ≡ parts_text s words ps)) parts (c.text_of_rows.ensures s words met taken)
+    subst (λ (ps : List Part). IfOk c.text_of_rows.result (λ text. text.items ≡ parts_text s words ps)) parts (c.text_of_rows.ensures s words (met, taken))
