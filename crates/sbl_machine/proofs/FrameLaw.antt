@@ -155,40 +155,35 @@ module _ (picked : Part' → Bool) (items : List ItemInMode) (closed : AllByRecu
             (body_pair i n call call' m (λ j x. calls_alike l j x) (body_named items n) refl);
       }
 
-  -- ---- runs
+-- ---- runs
 
-  run_kin : (l : ℕ) (external word : List ℕ) (limit : ℕ) →
-      let e = calls ns class (body_named items) l external Forward (start ns word limit) in
-      let e' = calls ns class' (body_named (holed_items picked items)) l external Forward (start ns word limit) in
-      (e' ≡ e) ⊎ ((dirty_at is_marked e ≡ true) × (dirty_at is_marked e' ≡ true))
-  run_kin l external word limit =
-      (((calls_alike l 0 external).in_mode Forward).at (start ns word limit) (record { here = refl; quiet = λ k c clear. refl })).kin
+-- a run on so many levels, from a state that the names of a script make
+abbrev pub run_from : (DeclaredNames → State) → ℕ → List ItemInMode → List ℕ → Ending
+run_from first l items external = calls (known_in items) (char_class_of (classes_after items [])) (body_named items) l external Forward (first (known_in items))
 
--- a run on so many levels
-abbrev run_on : ℕ → List ItemInMode → List ℕ → List ℕ → ℕ → Ending
-run_on l items external word limit = calls (known_in items) (char_class_of (classes_after items [])) (body_named items) l external Forward (start (known_in items) word limit)
-
-holed_run : (picked : Part' → Bool) (l : ℕ) (items : List ItemInMode) (external word : List ℕ) (limit : ℕ) →
-    run_on l (holed_items picked items) external word limit
-    ≡ calls (known_in items) (char_class_of (classes_after (holed_items picked items) [])) (body_named (holed_items picked items)) l external Forward (start (known_in items) word limit)
-holed_run picked l items external word limit =
+holed_run : (first : DeclaredNames → State) (picked : Part' → Bool) (l : ℕ) (items : List ItemInMode) (external : List ℕ) →
+    run_from first l (holed_items picked items) external
+    ≡ calls (known_in items) (char_class_of (classes_after (holed_items picked items) [])) (body_named (holed_items picked items)) l external Forward (first (known_in items))
+holed_run first picked l items external =
     let bodies = body_named (holed_items picked items) in
-    ap (λ ns. calls ns (char_class_of (classes_after (holed_items picked items) [])) bodies l external Forward (start ns word limit)) (known_same picked items)
+    ap (λ ns. calls ns (char_class_of (classes_after (holed_items picked items) [])) bodies l external Forward (first ns)) (known_same picked items)
 
 -- two endings are the same, or something that is picked was touched in both
-abbrev Kin : (Touch → Bool) → Ending → Ending → Type 0
+abbrev pub Kin : (Touch → Bool) → Ending → Ending → Type 0
 Kin is_marked e e' = (e' ≡ e) ⊎ ((dirty_at is_marked e ≡ true) × (dirty_at is_marked e' ≡ true))
 
-levels_kin : (picked : Part' → Bool) (l : ℕ) (s : Source) → IsClosed picked s → (word : List ℕ) (limit : ℕ) →
-    Kin (marked_by picked (names_of s)) (run_on l (in_order s.items) s.external word limit) (run_on l (in_order (holed_script picked s).items) s.external word limit)
-levels_kin picked l s closed word limit =
-    subst (Kin (marked_by picked (names_of s)) (run_on l (in_order s.items) s.external word limit))
-    (sym (ap (λ xs. run_on l xs s.external word limit) (order_holed picked s.items) ∙ holed_run picked l (in_order s.items) s.external word limit))
-    (run_kin picked (in_order s.items) closed l s.external word limit)
+pub levels_kin : (first : DeclaredNames → State) → ((is_marked : Touch → Bool) (ns : DeclaredNames) → Within is_marked 0 (first ns)) → (picked : Part' → Bool) (l : ℕ) (s : Source) → IsClosed picked s →
+    Kin (marked_by picked (names_of s)) (run_from first l (in_order s.items) s.external) (run_from first l (in_order (holed_script picked s).items) s.external)
+levels_kin first within picked l s closed =
+    let is_marked = marked_by picked (names_of s) in
+    let ns = known_in (in_order s.items) in
+    subst (Kin is_marked (run_from first l (in_order s.items) s.external))
+    (sym (ap (λ xs. run_from first l xs s.external) (order_holed picked s.items) ∙ holed_run first picked l (in_order s.items) s.external))
+    (((calls_alike picked (in_order s.items) closed l 0 s.external).in_mode Forward).at (first ns) (within is_marked ns)).kin
 
 regions_kin : (picked : Part' → Bool) (s : Source) → IsClosed picked s → (word : List ℕ) (limit : ℕ) → Kin (marked_by picked (names_of s)) (regions.ending s word limit) (regions.ending (holed_script picked s) word limit)
 unfolding regions.ending
-regions_kin picked s closed word limit = levels_kin picked 32 s closed word limit
+regions_kin picked s closed word limit = levels_kin (λ ns. start ns word limit) (λ m ns. record { here = refl; quiet = λ k c clear. refl }) picked 32 s closed
 
 ending_kin : (picked : Part' → Bool) (s : Source) → IsClosed picked s → (word : List ℕ) (limit : ℕ) → Kin (marked_by picked (names_of s)) (ending s word limit) (ending (holed_script picked s) word limit)
 ending_kin picked s closed word limit =
@@ -207,15 +202,19 @@ clear_kin is_marked e e' h clear = ⊎_elim (λ p. p) (λ d. absurd (true≢fals
 clear_back : (is_marked : Touch → Bool) (e e' : Ending) → Kin is_marked e e' → dirty_at is_marked e' ≡ false → e ≡ e'
 clear_back is_marked e e' h clear = ⊎_elim (λ p. sym p) (λ d. absurd (true≢false (sym d.1 ∙ clear))) h
 
-pub frame_on : (picked : Part' → Bool) (s t : Source) → IsClosed picked s → AgreeOutside picked s t → (word : List ℕ) (limit : ℕ) → dirty_at (marked_by picked (names_of s)) (ending s word limit) ≡ false → ending t word limit ≡ ending s word limit
-frame_on picked s t closed agree word limit clear =
+-- runs whose endings are kin to those of the scripts with holes are the same of two scripts that agree outside what is picked
+pub agree_on : (picked : Part' → Bool) (run : Source → Ending) → ((s : Source) → IsClosed picked s → Kin (marked_by picked (names_of s)) (run s) (run (holed_script picked s)))
+    → (s t : Source) → IsClosed picked s → AgreeOutside picked s t → dirty_at (marked_by picked (names_of s)) (run s) ≡ false → run t ≡ run s
+agree_on picked run kin s t closed agree clear =
     let is_marked = marked_by picked (names_of s) in
     let hole = holed_script picked in
     let later : IsClosed picked t = closed_of_holed picked t (subst (IsClosed picked) agree (closed_holed picked s closed)) in
-    let same : ending (hole t) word limit ≡ ending s word limit = ap (λ x. ending x word limit) (sym agree) ∙ clear_kin is_marked _ _ (ending_kin picked s closed word limit) clear in
-    let kin : Kin is_marked (ending t word limit) (ending (hole t) word limit) =
-    subst (λ ns. Kin (marked_by picked ns) (ending t word limit) (ending (hole t) word limit)) (agree_names picked s t agree) (ending_kin picked t later word limit) in
-    clear_back is_marked _ _ kin (ap (dirty_at is_marked) same ∙ clear) ∙ same
+    let same : run (hole t) ≡ run s = ap run (sym agree) ∙ clear_kin is_marked _ _ (kin s closed) clear in
+    let other : Kin is_marked (run t) (run (hole t)) = subst (λ ns. Kin (marked_by picked ns) (run t) (run (hole t))) (agree_names picked s t agree) (kin t later) in
+    clear_back is_marked _ _ other (ap (dirty_at is_marked) same ∙ clear) ∙ same
+
+pub frame_on : (picked : Part' → Bool) (s t : Source) → IsClosed picked s → AgreeOutside picked s t → (word : List ℕ) (limit : ℕ) → dirty_at (marked_by picked (names_of s)) (ending s word limit) ≡ false → ending t word limit ≡ ending s word limit
+frame_on picked s t closed agree word limit clear = agree_on picked (λ x. ending x word limit) (λ x c. ending_kin picked x c word limit) s t closed agree clear
 
 -- ---- what is said of it
 
