@@ -4,44 +4,35 @@ use crate::calls::benches::{Session, leaves};
 use std::alloc::{AllocError, Global};
 use std::process::Abort;
 use std::test::Fail;
-use test_support::{PLURALS, PREFIXES};
+use test_support::{PLURALS, PREFIXES, field};
 
-/// Lines after a script block: a word or a command; the length from which on its beginning is no bad command; and the reply to it, after `!`
-/// the fault of an input that ends in it. Only the beginnings of reports and edits are bad commands.
-const LINES: &[(&str, usize, &str)] = &[
-    ("cats", 0, ""),
-    ("boxes", 0, ""),
-    ("cakes", 0, ""),
-    ("cake", 0, ""),
-    ("dog", 0, ""),
-    (".", 0, ""),
-    (
-        "classes",
-        7,
-        "box,boxes\ncak,cake,cakes\ncat,cats\ndog,dog\n",
-    ),
-    ("runs", 4, "5\n"),
-    ("routine last", 7, "!73 Cut"),
-    ("true", 0, "!73 Cut"),
-    (".", 0, "ok\n"),
-    (
-        "classes",
-        7,
-        "box,boxes\ncake,cake,cakes\ncat,cats\ndog,dog\n",
-    ),
-    ("runs", 4, "7\n"),
-];
+/// Lines after a script block: words up to a line `.`, and then commands, with the block of one.
+const LINES: &str = "cats|boxes|cakes|cake|dog|.|classes|runs|routine last|true|.|classes|runs";
 
-/// The number of lines up to the end of the words, and up to the end of the edit.
+/// The number of lines, of those up to the end of the words, and of those up to the end of the edit.
+const COUNT: usize = 13;
+
 const WORDS: usize = 6;
 
 const EDITS: usize = 11;
+
+/// For each line after the words the length from which on its beginning is no bad command, and the reply to it, after `!` the fault of an
+/// input that ends in it. Only the beginnings of reports and edits are bad commands.
+const REPLIES: &[(usize, &str)] = &[
+    (7, "box,boxes\ncak,cake,cakes\ncat,cats\ndog,dog\n"),
+    (4, "5\n"),
+    (7, "!73 Cut"),
+    (0, "!73 Cut"),
+    (0, "ok\n"),
+    (7, "box,boxes\ncake,cake,cakes\ncat,cats\ndog,dog\n"),
+    (4, "7\n"),
+];
 
 /// Returns the input up to this line: the script, a line `.`, and the lines before it.
 fn input_to(alloc: Global, count: usize) -> Result<Vec<u8>, AllocError> {
     let mut input = Vec::from_slice(alloc, PLURALS.as_bytes())?;
     input.extend_from_slice(b"\n.\n")?;
-    for (line, _, _) in LINES.iter().take(count) {
+    for line in LINES.split('|').take(count) {
         input.extend_from_slice(line.as_bytes())?;
         input.push(b'\n')?;
     }
@@ -51,7 +42,7 @@ fn input_to(alloc: Global, count: usize) -> Result<Vec<u8>, AllocError> {
 /// Returns the replies to the lines before this one, of which no input ends.
 fn replies_to(alloc: Global, count: usize) -> Result<Vec<u8>, AllocError> {
     let mut text = Vec::new(alloc);
-    for (_, _, reply) in LINES.iter().take(count) {
+    for (_, reply) in REPLIES.iter().take(count.saturating_sub(WORDS)) {
         if !reply.starts_with('!') {
             text.extend_from_slice(reply.as_bytes())?;
         }
@@ -82,7 +73,7 @@ fn row_of(alloc: Global, word: &str) -> Result<String, AllocError> {
 /// Returns the rows of the words in the lines before this one, and of this beginning of it.
 fn rows_to(alloc: Global, count: usize, last: &str) -> Result<Vec<u8>, AllocError> {
     let mut rows = Vec::new(alloc);
-    for (word, _, _) in LINES.iter().take(count) {
+    for word in LINES.split('|').take(count) {
         rows.extend_from_slice(row_of(alloc, word)?.as_bytes())?;
     }
     if last != "." {
@@ -135,7 +126,7 @@ fn word_ends(
 
 #[test]
 fn words_may_end_at_each_byte(rt: HostRuntime) -> Result<(), Fail> {
-    for (number, (line, _, _)) in LINES.iter().take(WORDS).enumerate() {
+    for (number, line) in LINES.split('|').take(WORDS).enumerate() {
         // the line feed ends the line, too
         for length in 1..line.len().saturating_add(2) {
             let last = line.get(..length).unwrap_or(line);
@@ -147,7 +138,8 @@ fn words_may_end_at_each_byte(rt: HostRuntime) -> Result<(), Fail> {
 
 /// Returns the reply to these first bytes of a line. `class` alone asks for the class of the empty word, which is not there.
 fn reply_to(number: usize, length: usize) -> &'static str {
-    let (line, least, reply) = LINES[number.min(LINES.len() - 1)];
+    let line = field(LINES, number);
+    let (least, reply) = REPLIES[number.saturating_sub(WORDS).min(REPLIES.len() - 1)];
     if length >= least {
         reply
     } else if line.get(..length) == Some("class") {
@@ -167,7 +159,7 @@ fn command_ends(
 ) -> Result<(), Fail> {
     let mut text = replies_to(alloc, number)?;
     text.extend_from_slice(reply_to(number, length).as_bytes())?;
-    let input = input_to(alloc, LINES.len())?;
+    let input = input_to(alloc, COUNT)?;
     let begin = input_to(alloc, number)?.len();
     let end = begin.saturating_add(length).min(input.len());
     let session = session_over(&input[..end], b"classes\nruns\n");
@@ -181,10 +173,10 @@ const AFTER: &[u8] = b"box,boxes\ncake,cake,cakes\ncat,cats\ndog,dog\n7\n";
 
 #[test]
 fn commands_may_end_at_each_byte(rt: HostRuntime) -> Result<(), Fail> {
-    for number in WORDS..LINES.len() {
+    for number in WORDS..COUNT {
         let shown = if number < EDITS - 1 { BEFORE } else { AFTER };
         // the line feed ends the line, too
-        for length in 1..LINES[number].0.len().saturating_add(2) {
+        for length in 1..field(LINES, number).len().saturating_add(2) {
             command_ends(&rt, rt.alloc(), number, length, shown)?;
         }
     }
@@ -210,8 +202,8 @@ fn pieces_leave(
 #[test]
 fn sessions_may_be_read_in_pieces_of_every_size(rt: HostRuntime) -> Result<(), Fail> {
     let alloc = rt.alloc();
-    let input = input_to(alloc, LINES.len())?;
-    let text = replies_to(alloc, LINES.len())?;
+    let input = input_to(alloc, COUNT)?;
+    let text = replies_to(alloc, COUNT)?;
     pieces_leave(&rt, alloc, &input, &text, AFTER)?;
     let input = format!(in alloc; "{PREFIXES}\n.\n.\nadd undo\nadd redo\nstems\n")?;
     let text = b"ok\nok\nundo,stem,do\nredo,stem,do\n";
