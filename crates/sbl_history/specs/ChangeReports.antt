@@ -36,11 +36,15 @@ is_of k change = sameb kinds.the_type k (kind_of change)
 abbrev pub kind_figure : List Change → ChangeKind → List (List ℕ)
 kind_figure changes k = figure_fields (kind_name k) (count_by (is_of k) changes)
 
+-- those of three kinds
+abbrev pub three_figures : List Change → ChangeKind → ChangeKind → ChangeKind → List (List (List ℕ))
+three_figures changes a b c = kind_figure changes a ∷ kind_figure changes b ∷ kind_figure changes c ∷ []
+
 abbrev pub word_kind_figures : List Change → List (List (List ℕ))
-word_kind_figures changes = kind_figure changes kind.Added ∷ kind_figure changes kind.Removed ∷ kind_figure changes kind.Changed ∷ []
+word_kind_figures changes = three_figures changes kind.Added kind.Removed kind.Changed
 
 abbrev pub class_kind_figures : List Change → List (List (List ℕ))
-class_kind_figures changes = kind_figure changes kind.Split ∷ kind_figure changes kind.Merged ∷ kind_figure changes kind.Renamed ∷ []
+class_kind_figures changes = three_figures changes kind.Split kind.Merged kind.Renamed
 
 -- a row for each kind, with the number of its changes between some rows and those of the bench
 unfoldable pub change_figures_text : List Row → Contents → List ℕ
@@ -53,13 +57,15 @@ change_figures_text before s =
 abbrev pub first_of_kind : ℕ → List Change → ChangeKind → List Change
 first_of_kind n changes k = take n (filter (is_of k) changes)
 
+-- those of three kinds
+abbrev pub first_of_three : ℕ → List Change → ChangeKind → ChangeKind → ChangeKind → List Change
+first_of_three n changes a b c = first_of_kind n changes a ++ (first_of_kind n changes b ++ first_of_kind n changes c)
+
 abbrev pub first_word_changes : ℕ → List Change → List Change
-first_word_changes n changes =
-    first_of_kind n changes kind.Added ++ (first_of_kind n changes kind.Removed ++ first_of_kind n changes kind.Changed)
+first_word_changes n changes = first_of_three n changes kind.Added kind.Removed kind.Changed
 
 abbrev pub first_class_changes : ℕ → List Change → List Change
-first_class_changes n changes =
-    first_of_kind n changes kind.Split ++ (first_of_kind n changes kind.Merged ++ first_of_kind n changes kind.Renamed)
+first_class_changes n changes = first_of_three n changes kind.Split kind.Merged kind.Renamed
 
 -- the rows of the first n changes of each kind
 unfoldable pub first_changes_text : ℕ → List Row → Contents → List ℕ

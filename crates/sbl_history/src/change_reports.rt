@@ -102,30 +102,40 @@ fn push_count(
     push_line(alloc, out, &csv_record)
 }
 
-/// Appends the rows with the numbers of changes of words. Returns `AllocError` if an allocation fails.
-fn push_word_counts(
-    alloc: Global,
-    out: &mut Vec<u8>,
-    found: &[ChangeRow<'_>],
-) -> Result<(), AllocError>
-    ensures { OnOk result (out.new.items ≡ out.old.items ++ records.records_text (spec.word_kind_figures (view_changes found.now))) }
-{
-    push_count(alloc, out, ChangeKind::Added, found)?;
-    push_count(alloc, out, ChangeKind::Removed, found)?;
-    push_count(alloc, out, ChangeKind::Changed, found)
+/// Three kinds of changes, in the order of their rows.
+#[derive(Clone, Copy)]
+struct Kinds {
+    first: ChangeKind,
+    second: ChangeKind,
+    third: ChangeKind,
 }
 
-/// Appends the rows with the numbers of changes of classes. Returns `AllocError` if an allocation fails.
-fn push_class_counts(
+/// The kinds of changes of words.
+const WORD_KINDS: Kinds = Kinds {
+    first: ChangeKind::Added,
+    second: ChangeKind::Removed,
+    third: ChangeKind::Changed,
+};
+
+/// The kinds of changes of classes.
+const CLASS_KINDS: Kinds = Kinds {
+    first: ChangeKind::Split,
+    second: ChangeKind::Merged,
+    third: ChangeKind::Renamed,
+};
+
+/// Appends the rows with the numbers of changes of these kinds. Returns `AllocError` if an allocation fails.
+fn push_counts(
     alloc: Global,
     out: &mut Vec<u8>,
+    kinds: Kinds,
     found: &[ChangeRow<'_>],
 ) -> Result<(), AllocError>
-    ensures { OnOk result (out.new.items ≡ out.old.items ++ records.records_text (spec.class_kind_figures (view_changes found.now))) }
+    ensures { OnOk result (out.new.items ≡ out.old.items ++ records.records_text (spec.three_figures (view_changes found.now) kinds.first kinds.second kinds.third)) }
 {
-    push_count(alloc, out, ChangeKind::Split, found)?;
-    push_count(alloc, out, ChangeKind::Merged, found)?;
-    push_count(alloc, out, ChangeKind::Renamed, found)
+    push_count(alloc, out, kinds.first, found)?;
+    push_count(alloc, out, kinds.second, found)?;
+    push_count(alloc, out, kinds.third, found)
 }
 
 /// Returns the report of how many changes of each kind there are between some rows and those of the bench.
@@ -143,8 +153,8 @@ pub fn change_figures_text(
     let rows = bench.rows()?;
     let found = changes_of_few(alloc, before, &rows)?;
     let mut out = Vec::new(alloc);
-    push_word_counts(alloc, &mut out, &found)?;
-    push_class_counts(alloc, &mut out, &found)?;
+    push_counts(alloc, &mut out, WORD_KINDS, &found)?;
+    push_counts(alloc, &mut out, CLASS_KINDS, &found)?;
     Ok(out)
 }
 
@@ -178,32 +188,19 @@ fn push_first(
     Ok(())
 }
 
-/// Appends the rows of the first `number` changes of each kind of words. Returns `AllocError` if an allocation fails.
-fn push_first_words(
+/// Appends the rows of the first `number` changes of each of these kinds. Returns `AllocError` if an allocation fails.
+fn push_first_of(
     alloc: Global,
     out: &mut Vec<u8>,
     number: usize,
+    kinds: Kinds,
     found: &[ChangeRow<'_>],
 ) -> Result<(), AllocError>
-    ensures { OnOk result (out.new.items ≡ out.old.items ++ records.records_text (map change_fields (spec.first_word_changes number (view_changes found.now)))) }
+    ensures { OnOk result (out.new.items ≡ out.old.items ++ records.records_text (map change_fields (spec.first_of_three number (view_changes found.now) kinds.first kinds.second kinds.third))) }
 {
-    push_first(alloc, out, number, ChangeKind::Added, found)?;
-    push_first(alloc, out, number, ChangeKind::Removed, found)?;
-    push_first(alloc, out, number, ChangeKind::Changed, found)
-}
-
-/// Appends the rows of the first `number` changes of each kind of classes. Returns `AllocError` if an allocation fails.
-fn push_first_classes(
-    alloc: Global,
-    out: &mut Vec<u8>,
-    number: usize,
-    found: &[ChangeRow<'_>],
-) -> Result<(), AllocError>
-    ensures { OnOk result (out.new.items ≡ out.old.items ++ records.records_text (map change_fields (spec.first_class_changes number (view_changes found.now)))) }
-{
-    push_first(alloc, out, number, ChangeKind::Split, found)?;
-    push_first(alloc, out, number, ChangeKind::Merged, found)?;
-    push_first(alloc, out, number, ChangeKind::Renamed, found)
+    push_first(alloc, out, number, kinds.first, found)?;
+    push_first(alloc, out, number, kinds.second, found)?;
+    push_first(alloc, out, number, kinds.third, found)
 }
 
 /// Returns the report of what changed between some rows and those of the bench, with at most `number` rows of each kind.
@@ -222,7 +219,7 @@ pub fn first_changes_text(
     let rows = bench.rows()?;
     let found = changes_of_few(alloc, before, &rows)?;
     let mut out = Vec::new(alloc);
-    push_first_words(alloc, &mut out, number, &found)?;
-    push_first_classes(alloc, &mut out, number, &found)?;
+    push_first_of(alloc, &mut out, number, WORD_KINDS, &found)?;
+    push_first_of(alloc, &mut out, number, CLASS_KINDS, &found)?;
     Ok(out)
 }

@@ -17,8 +17,8 @@ returns c =
     let found : view_changes c.in_ok-found.found.items ≡ changes = c.in_ok-found.ensures (setting_of c.args.bench.now) c.args.bench.now.words rows ∙ ap (changes_of before) rows in
     let words : view_changes c.deref-2.result.now ≡ changes = ap view_changes c.deref-2.ensures.value ∙ found in
     let classes : view_changes c.deref-3.result.now ≡ changes = ap view_changes c.deref-3.ensures.value ∙ found in
-    c.in_ok-push_class_counts.ensures
-    ∙ (λ i. (c.in_ok-push_word_counts.ensures ∙ ap (λ (l : List ℕ). l ++ records_text (word_kind_figures (view_changes c.deref-2.result.now))) c.new-out.ensures.items) i
+    c.in_ok-push_counts-2.ensures
+    ∙ (λ i. (c.in_ok-push_counts.ensures ∙ ap (λ (l : List ℕ). l ++ records_text (word_kind_figures (view_changes c.deref-2.result.now))) c.new-out.ensures.items) i
     ++ records_text (class_kind_figures (view_changes c.deref-3.result.now)))
     ∙ (λ i. records_text (word_kind_figures (words i)) ++ records_text (class_kind_figures (classes i)))
     ∙ sym (texts_append (word_kind_figures changes) (class_kind_figures changes))
