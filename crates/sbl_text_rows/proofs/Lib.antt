@@ -1,3 +1,2 @@
 pub mod GapFacts
-pub mod TextFacts
 pub mod TokenFacts

@@ -1,7 +1,7 @@
 use Rattle.std.proofs.Common.{rules, ◌≡◌, ◌∙◌, length, slice_range}
 use Rattle.std.proofs.lemmas.Str.{IsCharBoundary-end}
 use Rattle.sbl_source_map.proofs.HeadFacts.{is_boundary, rest_is, slice_is}
-use Rattle.sbl_text_rows.proofs.TextFacts.{rest_chars}
+use Rattle.sbl_source_map.proofs.Rests.{rest_chars}
 use Rattle.sbl_text_rows.proofs.token_rows.rest_from.Goals as goal
 
 pub returns-in-Some : goal.returns-in-Some
