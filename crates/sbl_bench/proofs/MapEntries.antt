@@ -8,6 +8,7 @@ use Rattle.std.specs.declared.alloc.Global.{Global}
 use Rattle.std.specs.List.{AllByRecursion, IsDistinct}
 use Rattle.std.specs.Map.{keys_of, lookup, lookup_key, remove_entry}
 use Rattle.std.proofs.lemmas.Slice.Eq.{bytes_eq-Decides}
+use Rattle.sbl_rows.proofs.OrderFacts.{bytes_eq-back}
 use Rattle.sbl_rows.specs.Setting.{Setting}
 use Rattle.sbl_machine.specs.declared.outcome.RunTrace.{RunTrace}
 use Rattle.sbl_bench.specs.declared.fault.EditFault.{EditFault}
@@ -17,14 +18,6 @@ use Rattle.sbl_bench.specs.inside.Pairs.{IsOneMore, Text, find}
 pub use Rattle.sbl_bench.specs.inside.ShownRows.{row_shown}
 use Rattle.sbl_rows.specs.Rows.{rows_of}
 use Rattle.sbl_bench.specs.Vocabulary.{is_word, without}
-
-bytes_eq-back : (x y : List ℕ) → bytes_eq x y ≡ bytes_eq y x
-bytes_eq-back x y = both (bytes_eq x y) (bytes_eq y x) (λ e. (bytes_eq-Decides y x).1 (sym ((bytes_eq-Decides x y).0 e))) (λ e. (bytes_eq-Decides x y).1 (sym ((bytes_eq-Decides y x).0 e)))
-  where
-    both : (a b : Bool) → (a ≡ true → b ≡ true) → (b ≡ true → a ≡ true) → a ≡ b
-    both true b f g = sym (f refl)
-    both false true f g = g refl
-    both false false f g = refl
 
 abbrev pub is_key : List ℕ → Vec ℕ Global → Bool
 is_key word k = bytes_eq word k.items
