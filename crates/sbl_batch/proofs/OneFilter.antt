@@ -11,15 +11,15 @@ use Rattle.sbl_batch.specs.Filter.{AllShort, Filters, IsFiltered, Rows, Stops, T
 use Rattle.sbl_batch.specs.Laws.{FilteringIsOne, IsToldByBytes}
 use Rattle.sbl_batch.proofs.RowFacts.{filtered-append, filtered-none}
 use Rattle.sbl_io.proofs.Bytes.{none_of, stand_lines}
-use Rattle.sbl_io.specs.HeldInput.{BeginsLong, Took}
-use Rattle.sbl_io.specs.inside.LineSteps.{StandFirst}
+use Rattle.sbl_io.specs.HeldInput.{Took}
 use Rattle.sbl_io.specs.LinesOf.{lines_of, max_line}
 use Rattle.sbl_io.specs.declared.faults.ServeFault.TheVariants as fault
 use Rattle.sbl_script.specs.OneReading.{FaultIsOne, ScriptIsOne, ScriptOrFault}
 use Rattle.sbl_ast.specs.Source.{Source}
 use Rattle.sbl_script.specs.Reading.{IsFaultOf, IsScriptOf}
-use Rattle.sbl_input.proofs.InputFacts.{AtEnd, AtLong, AtNoText, AtPoint, LinesEnd, end-end, end-long, end-point, lines_end}
-use Rattle.sbl_reports.specs.Block.{BlockLines, Breaks, made_text, max_script, point}
+use Rattle.sbl_input.proofs.InputFacts.{AtEnd, AtLong, AtNoText, AtPoint, LinesEnd, lines_end}
+use Rattle.sbl_input.proofs.OneLoading.{block_end, cut_end, long_end}
+use Rattle.sbl_reports.specs.Block.{made_text, max_script, point}
 use Rattle.sbl_input.specs.Loading.{TookFault, TookSource, WordLines}
 use Rattle.sbl_input.specs.declared.faults.LoadFault.{LoadFault}
 use Rattle.sbl_input.specs.declared.faults.LoadFault.TheVariants.{Input, Open, Script}
@@ -220,28 +220,6 @@ ending-one one fault_one either external (AtEnd lines) t u r q p o = (p.0 ∙ sy
 ending-one one fault_one either external AtLong t u r q p o = (p.0 ∙ sym o.0, p.1 ∙ sym o.1)
 ending-one one fault_one either external AtNoText t u r q p o = (p.0 ∙ sym o.0, p.1 ∙ sym o.1)
 
--- a block and its point come first
-block_end : (bytes rest : List ℕ) (lines : List (List ℕ)) → BlockLines lines → StandFirst bytes (lines ++ point ∷ []) rest
-    → lines_end false (lines_of bytes) ≡ AtPoint lines (lines_of rest)
-block_end bytes rest lines good stand =
-    let all : lines_of bytes ≡ lines ++ point ∷ lines_of rest = stand_lines bytes rest (lines ++ point ∷ []) stand ∙ append_assoc lines (point ∷ []) (lines_of rest) in
-    ap (lines_end false) all ∙ end-point false lines (lines_of rest) good tt
-
-long_end : (bytes : List ℕ) (new : Option (List ℕ)) → Breaks BlockLines (Some bytes) new fault.LineTooLong → lines_end false (lines_of bytes) ≡ AtLong
-long_end bytes new long = by long.1 long.3 long.4
-  where
-    by : (next : Option (List ℕ)) → Took (Some bytes) next long.0 → BeginsLong next → lines_end false (lines_of bytes) ≡ AtLong
-    by None nothing begins = absurd nothing
-    by (Some y) stand begins =
-        ap (lines_end false) (stand_lines bytes y long.0 stand ∙ ap (λ (x : List (List ℕ)). long.0 ++ x) begins.2) ∙ end-long false long.0 begins.0 begins.1 long.2 tt begins.3
-
-cut_end : (bytes : List ℕ) (new : Option (List ℕ)) → Breaks BlockLines (Some bytes) new fault.Cut → (lines : List (List ℕ)) × (lines_end false (lines_of bytes) ≡ AtEnd lines)
-cut_end bytes None cut = absurd cut.2
-cut_end bytes (Some y) cut =
-    let all : lines_of bytes ≡ cut.0 =
-    stand_lines bytes y cut.0 cut.2 ∙ ap (λ (x : List ℕ). cut.0 ++ lines_of x) cut.3 ∙ ap (λ (x : List (List ℕ)). cut.0 ++ x) none_of ∙ append-nil cut.0 in
-    (cut.0, ap (lines_end false) all ∙ end-end false cut.0 cut.1 tt)
-
 module _ (bytes external t : List ℕ) (new : Option (List ℕ)) where
   abbrev Is : Ending → Type 0
   Is r = IsEnding external (lines_end false (lines_of bytes)) t r
@@ -275,7 +253,7 @@ module _ (bytes external t : List ℕ) (new : Option (List ℕ)) where
       let cut = cut_end bytes new so.0 in
       subst (λ (e : LinesEnd). IsEnding external e t (Err (Input fault.Cut))) (sym cut.1) (refl, so.1)
   filtered-ending (Err (Input fault.LineTooLong)) told (inl so) =
-      subst (λ (e : LinesEnd). IsEnding external e t (Err (Input fault.LineTooLong))) (sym (long_end bytes new so.0)) (refl, so.1)
+      subst (λ (e : LinesEnd). IsEnding external e t (Err (Input fault.LineTooLong))) (sym (long_end bytes so.0)) (refl, so.1)
 
 pub filtering-one : ScriptIsOne → FaultIsOne → ScriptOrFault → FilteringIsOne
 filtering-one one fault_one either bytes external a b t u r q told told' p o =

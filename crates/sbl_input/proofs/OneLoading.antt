@@ -68,7 +68,7 @@ ending-one one fault_one either external AtNoText r q p o = p ∙ sym o
 -- ---- what was taken
 
 -- a block and its point stand first
-block_end : (bytes rest : List ℕ) (lines : List (List ℕ)) → BlockLines lines → StandFirst bytes (lines ++ point ∷ []) rest
+pub block_end : (bytes rest : List ℕ) (lines : List (List ℕ)) → BlockLines lines → StandFirst bytes (lines ++ point ∷ []) rest
     → lines_end false (lines_of bytes) ≡ AtPoint lines (lines_of rest)
 block_end bytes rest lines good stand =
     let all : lines_of bytes ≡ lines ++ point ∷ lines_of rest = stand_lines bytes rest (lines ++ point ∷ []) stand ∙ append_assoc lines (point ∷ []) (lines_of rest) in
@@ -101,10 +101,10 @@ after_source bytes external (Some rest) s r took ends =
     subst (λ (e : LinesEnd). IsEnding external e r) (sym (block_end bytes rest took.0 took.1.0 took.1.1)) (inl (s, took.2, ends rest refl))
 
 -- lines that are good stand first, and one after them that is too long
-abbrev LongAfter : (List (List ℕ) → Type 0) → Option (List ℕ) → Type 0
+abbrev pub LongAfter : (List (List ℕ) → Type 0) → Option (List ℕ) → Type 0
 LongAfter Good old = (lines : List (List ℕ)) × (next : Option (List ℕ)) × Good lines × Took old next lines × BeginsLong next
 
-long_end : (bytes : List ℕ) → LongAfter BlockLines (Some bytes) → lines_end false (lines_of bytes) ≡ AtLong
+pub long_end : (bytes : List ℕ) → LongAfter BlockLines (Some bytes) → lines_end false (lines_of bytes) ≡ AtLong
 long_end bytes long = by long.1 long.3 long.4
   where
     by : (next : Option (List ℕ)) → Took (Some bytes) next long.0 → BeginsLong next → lines_end false (lines_of bytes) ≡ AtLong
@@ -121,7 +121,7 @@ long_words bytes long = by long.1 long.3 long.4
         ap (lines_end true) (stand_lines bytes y long.0 stand ∙ ap (λ (x : List (List ℕ)). long.0 ++ x) begins.2)
         ∙ end-long true long.0 begins.0 begins.1 long.2.0 long.2.1 begins.3
 
-cut_end : (bytes : List ℕ) (new : Option (List ℕ)) → Breaks BlockLines (Some bytes) new fault.Cut → (lines : List (List ℕ)) × (lines_end false (lines_of bytes) ≡ AtEnd lines)
+pub cut_end : (bytes : List ℕ) (new : Option (List ℕ)) → Breaks BlockLines (Some bytes) new fault.Cut → (lines : List (List ℕ)) × (lines_end false (lines_of bytes) ≡ AtEnd lines)
 cut_end bytes None cut = absurd cut.2
 cut_end bytes (Some y) cut =
     let all : lines_of bytes ≡ cut.0 =

@@ -1,5 +1,5 @@
-use Rattle.std.proofs.Common.{◌≡◌, ◌+◌, ◌<◌, ◌≤◌, ◌^◌, length, arith}
-use Rattle.sbl_rows.specs.Families.{any_two, pairs_in, same_stem}
+use Rattle.std.proofs.Common.{◌<◌, ◌^◌, length, arith}
+use Rattle.sbl_rows.specs.Families.{same_stem}
 use Rattle.sbl_rows.specs.Grouping.{view_pairs}
 use Rattle.sbl_rows.proofs.PairNumbers.{pairs-le, together-fit}
 use Rattle.sbl_rows.proofs.family_pairs.count_family.Goals as goal

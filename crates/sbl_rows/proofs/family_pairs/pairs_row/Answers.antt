@@ -1,4 +1,4 @@
-use Rattle.std.proofs.Common.{◌≡◌, ◌+◌, ◌-◌, arith}
+use Rattle.std.proofs.Common.{◌≡◌, ◌-◌, arith}
 use Rattle.sbl_rows.specs.Counting.{view_families}
 use Rattle.sbl_rows.specs.Families.{Pairs, any_two, other_stem, pairs_across, pairs_within, same_stem}
 use Rattle.sbl_rows.proofs.PairNumbers.{within-across, within-either}
