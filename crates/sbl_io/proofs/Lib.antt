@@ -4,3 +4,4 @@ pub mod Utf8
 pub mod Taking
 pub mod ReportFacts
 pub mod HeldFacts
+pub mod ReadingFacts

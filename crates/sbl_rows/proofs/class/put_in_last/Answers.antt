@@ -1,4 +1,4 @@
-use Rattle.std.proofs.Common.{refl}
+use Rattle.std.proofs.Common.{arith, refl}
 use Rattle.std.proofs.lemmas.Result.{on_ok_weaker}
 use Rattle.sbl_rows.specs.Classes.{view_class}
 use Rattle.sbl_rows.proofs.LastFacts.{last_in_vec}
@@ -7,5 +7,5 @@ use Rattle.sbl_rows.proofs.class.put_in_last.Goals as goal
 pub returns-in-Some : goal.returns-in-Some
 returns-in-Some c =
     on_ok_weaker c.push_word.result
-    (λ more. last_in_vec view_class c.args.classes.now c.in-Some.class.now _ c.args.word.items (c.in-Some.ensures.variant.0 refl) c.in-Some.ensures.value refl more)
+    (λ more. last_in_vec view_class c.args.classes.now c.in-Some.class.now _ c.args.word.items (let h = c.in-Some.ensures.variant.0 refl in let k = c.args.classes.now.ok.0 in omega arith) c.in-Some.ensures.value refl more)
     c.push_word.ensures

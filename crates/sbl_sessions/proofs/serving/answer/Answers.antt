@@ -1,10 +1,10 @@
-use Rattle.std.proofs.Common.{◌≡◌, ◌∙◌, List, ℕ, true, false, arith, refl, sym, subst, ap, rules}
+use Rattle.std.proofs.Common.{◌≡◌, ◌∙◌, List, ℕ, true, false, refl, sym, subst, ap, rules}
 use Rattle.sbl_bench.specs.KeptRuns.{contents_of}
 use Rattle.sbl_sessions.specs.CommandViews.{IsAnswer, KeepsLine}
 use Rattle.sbl_sessions.specs.Commands.{line_command}
 use Rattle.sbl_io.specs.HeldInput.{input_of, line_of}
 use Rattle.sbl_sessions.specs.Requests.{asks_block}
-use Rattle.sbl_io.proofs.Bytes.{whole_none}
+use Rattle.sbl_io.proofs.ReadingFacts.{reads-nothing}
 use Rattle.sbl_sessions.specs.declared.replies.Reply.TheVariants as reply
 use Rattle.sbl_sessions.proofs.SessionFacts.{answered_block, answered_line}
 use Rattle.sbl_sessions.proofs.serving.answer.Goals as goal
@@ -20,18 +20,7 @@ returns-then-not-asks_block-clause-answered g c =
     answered_line (input_of g.R.Source.left c.args.lines.now) line s t c.answer_line.result asked is
 
 pub returns-then-not-asks_block-clause-reading : goal.returns-then-not-asks_block-clause-reading
-returns-then-not-asks_block-clause-reading g c = record {
-  remembered = c.requires.ready;
-  drained = λ is. cc is;
-  fuel = omega arith;
-  later = omega arith;
-  stays = λ untold. untold;
-  feeds = λ _. whole_none _;
-  steady = refl;
-  bound = refl;
-  why = tt;
-  in_time = λ timely. timely;
-}
+returns-then-not-asks_block-clause-reading g c = reads-nothing _ _ _ _ c.requires.ready
 
 pub returns-clause-answered : goal.returns-clause-answered
 returns-clause-answered g c =

@@ -1,6 +1,6 @@
-use Rattle.std.proofs.Common.{◌≡◌, ℕ, List, arith, false, refl, subst}
+use Rattle.std.proofs.Common.{◌≡◌, ℕ, List, false, subst}
 use Rattle.sbl_bench.specs.KeptRuns.{contents_of}
-use Rattle.sbl_io.proofs.Bytes.{whole_none}
+use Rattle.sbl_io.proofs.ReadingFacts.{reads-nothing}
 use Rattle.sbl_io.specs.HeldInput.{input_of, line_of}
 use Rattle.sbl_work.specs.Commands.{asks_work_block}
 use Rattle.sbl_history.specs.Desks.{state_of}
@@ -20,18 +20,7 @@ returns-in-None-clause-answered g c =
     answered_line (input_of g.R.Source.left c.args.lines.now) line s t d e c.answer_noted.result asks is
 
 pub returns-in-None-clause-reading : goal.returns-in-None-clause-reading
-returns-in-None-clause-reading g c = record {
-  remembered = c.requires.ready;
-  drained = λ is. cc is;
-  fuel = omega arith;
-  later = omega arith;
-  stays = λ untold. untold;
-  feeds = λ _. whole_none _;
-  steady = refl;
-  bound = refl;
-  why = tt;
-  in_time = λ timely. timely;
-}
+returns-in-None-clause-reading g c = reads-nothing _ _ _ _ c.requires.ready
 
 pub returns-in_ok-block-in-Some-clause-answered : goal.returns-in_ok-block-in-Some-clause-answered
 returns-in_ok-block-in-Some-clause-answered g c =
