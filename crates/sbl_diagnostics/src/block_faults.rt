@@ -188,7 +188,7 @@ pub fn part_text<'x>(
         source: typed.source,
     };
     let Ok(text) = str::from_utf8(typed.block) else {
-        let faulty = faulty_of(typed, part, ScriptFault::NotUtf8);
+        let faulty = faulty_of(alloc, typed, part, ScriptFault::NotUtf8);
         let begin = offset_of_byte(typed.block);
         return Ok(Some(fault_text(title, faulty, begin)?));
     };
