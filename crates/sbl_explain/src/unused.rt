@@ -85,6 +85,7 @@ fn push_entry<T: Report>(
 }
 
 /// What the words of a vocabulary meet and take.
+#[derive(Clone, Copy)]
 struct Used<'s, 'a> {
     alloc: Global,
     met: &'s BTreeSet<ItemRef<'a>>,
