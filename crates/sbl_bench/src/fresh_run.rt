@@ -16,24 +16,26 @@ use crate::last_run::{LastRun, SharedLists};
 use sbl_machine::{Machine, Meter, Table};
 use std::alloc::{AllocError, Global};
 
-/// Returns a new run of a word, which shares a list of touches if one of them is equal. Returns `AllocError` if an allocation fails.
-fn run_new(
-    alloc: Global,
-    machine: &Machine<Table>,
-    limit: u32,
-    meter: &mut Meter,
-    lists: &mut SharedLists,
-    word: &[char],
-) -> Result<LastRun, AllocError>
-    requires sound { IsWord word.now }
-    requires room { meter.old < max_runs }
-    ensures fresh { (s : Source) → IsLinkedMachineOf machine.now s → IfOk result (λ run. IsFresh (under s limit) word.now run) }
-    ensures counted { OnOk result (meter.new ≡ meter.old + 1) }
-    ensures some { OnErr result ((n : ℕ) × (n ≤ 1) × (meter.new ≡ meter.old + n)) }
-{
-    match machine.trace(alloc, meter, word, limit) {
-        Ok(traced) => lists.keep(alloc, meter, traced),
-        Err(_) => Err(AllocError),
+impl SharedLists {
+    /// Returns a new run of a word, which shares a list of touches if one of them is equal. Returns `AllocError` if an allocation fails.
+    fn run_new(
+        &mut self,
+        alloc: Global,
+        machine: &Machine<Table>,
+        limit: u32,
+        meter: &mut Meter,
+        word: &[char],
+    ) -> Result<LastRun, AllocError>
+        requires sound { IsWord word.now }
+        requires room { meter.old < max_runs }
+        ensures fresh { (s : Source) → IsLinkedMachineOf machine.now s → IfOk result (λ run. IsFresh (under s limit) word.now run) }
+        ensures counted { OnOk result (meter.new ≡ meter.old + 1) }
+        ensures some { OnErr result ((n : ℕ) × (n ≤ 1) × (meter.new ≡ meter.old + n)) }
+    {
+        match machine.trace(alloc, meter, word, limit) {
+            Ok(traced) => self.keep(alloc, meter, traced),
+            Err(_) => Err(AllocError),
+        }
     }
 }
 
@@ -62,7 +64,7 @@ pub(crate) fn run_or_break<B: BreakOff>(
     if break_off.is_wanted() {
         return Err(EditFault::BrokenOff);
     }
-    match run_new(alloc, machine, limit, meter, lists, word) {
+    match lists.run_new(alloc, machine, limit, meter, word) {
         Ok(last) => Ok(last),
         Err(_) => Err(EditFault::OutOfMemory),
     }

@@ -1,6 +1,6 @@
 use Rattle.sbl_rows.specs.Setting.{under}
 use Rattle.sbl_bench.proofs.Listing.{kept_fresh}
-use Rattle.sbl_bench.proofs.fresh_run.run_new.Goals as goal
+use Rattle.sbl_bench.proofs.last_run.SharedLists.run_new.Goals as goal
 
 pub returns-in-Ok-clause-fresh : goal.returns-in-Ok-clause-fresh
 returns-in-Ok-clause-fresh c s made =
