@@ -1,12 +1,13 @@
 //! The text of a block: the lines up to a line `.`.
 ghost use Rattle.std.specs.Prelude.{◌≡◌, ◌+◌, ◌++◌, [], ◌∷◌, List, ℕ, OnOk, IfOk, IfErr, None, Some, length, min, nat_le};
 ghost use Rattle.std.specs.Io.KnownBytes.{Keeps};
-ghost use Rattle.sbl_reports.specs.Block.{HasText, HoldsText, KeepsText, ReadsBlock, max_lines, max_script};
+ghost use Rattle.sbl_reports.specs.Block.{HasText, HoldsText, KeepsText, ReadsBlock, made_text, max_lines, max_script};
 ghost use Rattle.sbl_io.specs.Faults.{serve_fault_of};
 ghost use Rattle.sbl_io.specs.HeldInput.{Reading, input_of};
+ghost use Rattle.sbl_io.specs.LinesOf.{lines_of};
 ghost use Rattle.sbl_io.specs.declared.faults.LineFault.{LineFault};
 
-use sbl_io::{Lines, ServeFault, Source};
+use sbl_io::{Lines, ServeFault, Source, first_line};
 use sbl_script::MAX_SCRIPT;
 use std::alloc::{AllocError, Global};
 
@@ -118,6 +119,20 @@ fn push_ended(bytes: &mut Vec<u8>, line: &[u8]) -> Result<(), AllocError>
     bytes.extend_from_slice(line)?;
     bytes.push(b'\n')?;
     Ok(())
+}
+
+/// Returns the text of the lines of a file: each without the carriage return at its end, and followed by a line feed. Returns
+/// `AllocError` if an allocation fails.
+pub fn text_of_lines(alloc: Global, bytes: &[u8]) -> Result<Vec<u8>, AllocError>
+    ensures { IfOk result (λ text. text.items ≡ made_text (lines_of bytes.now)) }
+{
+    let mut text = Vec::new(alloc);
+    let mut rest = bytes;
+    while let Some((line, after)) = first_line(rest) {
+        push_ended(&mut text, line)?;
+        rest = after;
+    }
+    Ok(text)
 }
 
 /// Reads the text of a block, up to and including its line `.`, even if the block has no text. Returns `Cut` if the input ends

@@ -14,7 +14,7 @@ mod row_records;
 mod word_lists;
 mod written_stems;
 
-pub use block_text::{BlockFault, BlockText, read_block};
+pub use block_text::{BlockFault, BlockText, read_block, text_of_lines};
 pub use families::families_text;
 pub use listings::rows_text;
 pub use lookups::{found_text, stem_text};

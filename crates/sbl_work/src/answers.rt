@@ -2,8 +2,6 @@
 ghost use Rattle.std.specs.Prelude.{◌≡◌, IfOk};
 ghost use Rattle.std.specs.Str.{chars};
 ghost use Rattle.sbl_bench.specs.KeptRuns.{contents_of};
-ghost use Rattle.sbl_io.specs.LinesOf.{lines_of};
-ghost use Rattle.sbl_reports.specs.Block.{made_text};
 ghost use Rattle.sbl_sessions.specs.{Answers.with_line_feed, Commands.line_command};
 ghost use Rattle.sbl_work.specs.Commands as spec;
 ghost use Rattle.sbl_history.specs.Desks.{State, state_of};
@@ -27,8 +25,7 @@ use crate::word_files::words_reply;
 use sbl_bench::{Bench, BreakOff, EditFault};
 use sbl_explain::{KeptTakes, unused_text};
 use sbl_history::{Desk, changes_text};
-use sbl_io::first_line;
-use sbl_reports::{largest_text, stats_text};
+use sbl_reports::{largest_text, stats_text, text_of_lines};
 use sbl_sessions::{Reply, answer_line_or_break, report};
 use sbl_source_map::definition_text;
 use std::alloc::{AllocError, Global};
@@ -136,21 +133,6 @@ fn largest(alloc: Global, bench: &Bench, argument: &str) -> Reply
     }
 }
 
-/// Returns the lines of a file, each without the carriage return at its end, and each followed by a line feed. Returns `AllocError`
-/// if an allocation fails.
-fn lines_text(alloc: Global, bytes: &[u8]) -> Result<Vec<u8>, AllocError>
-    ensures { IfOk result (λ text. text.items ≡ made_text (lines_of bytes.now)) }
-{
-    let mut text = Vec::new(alloc);
-    let mut rest = bytes;
-    while let Some((line, after)) = first_line(rest) {
-        text.extend_from_slice(line)?;
-        text.extend_from_slice(b"\n")?;
-        rest = after;
-    }
-    Ok(text)
-}
-
 /// Returns the reply to `families` for a file.
 fn families(alloc: Global, bench: &Bench, file: Option<&[u8]>) -> Reply
     ensures { (d : State) → IsWorkAnswer (contents_of bench.now) d (spec.with_file spec.families_in_file (view_file file.entry)) result (contents_of bench.now) d }
@@ -158,7 +140,7 @@ fn families(alloc: Global, bench: &Bench, file: Option<&[u8]>) -> Reply
     let Some(bytes) = file else {
         return Reply::Fixed(NO_FILE);
     };
-    match lines_text(alloc, bytes) {
+    match text_of_lines(alloc, bytes) {
         Ok(text) => families_reply(alloc, bench, &text),
         Err(refused) => report(Err(refused)),
     }

@@ -9,6 +9,7 @@ ghost use Rattle.snowbench.specs.ScriptFiles as spec;
 use sbl_bench::{Bench, EditFault, MAX_WORD_LENGTH, Progress, WordKeys};
 use sbl_input::{LoadFault, text_line};
 use sbl_io::{MAX_LINE, ServeFault, first_line};
+use sbl_reports::text_of_lines;
 use sbl_script::Script;
 use std::alloc::{AllocError, Global};
 
@@ -105,14 +106,7 @@ pub fn long_line(bytes: &[u8]) -> Option<u64>
 pub fn script_text(alloc: Global, bytes: &[u8]) -> Result<Vec<u8>, AllocError>
     ensures { IfOk result (λ text. text.items ≡ spec.script_text bytes.now) }
 {
-    let mut text = Vec::new(alloc);
-    let mut rest = bytes;
-    while let Some((line, after)) = first_line(rest) {
-        text.extend_from_slice(line)?;
-        text.push(b'\n')?;
-        rest = after;
-    }
-    Ok(text)
+    text_of_lines(alloc, bytes)
 }
 
 /// Returns the script of a file, or why there is none.
