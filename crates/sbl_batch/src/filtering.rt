@@ -12,7 +12,7 @@ ghost use Rattle.sbl_script.specs.ParsedScript.{source_of};
 ghost use Rattle.sbl_input.specs.Faults.{left_by_load};
 ghost use Rattle.sbl_input.specs.Loading.{HasReason};
 
-use crate::row_writer::{RowWriter, push_row};
+use crate::row_writer::RowWriter;
 use sbl_bench::{EditFault, MAX_WORD_LENGTH};
 use sbl_input::{LoadFault, read_script};
 use sbl_io::{Lines, ServeFault, Sink, Source};
@@ -66,7 +66,7 @@ fn filter_word(
     if characters.is_empty() {
         return Ok(());
     }
-    push_row(alloc, machine, meter, rows, word, characters)?;
+    rows.push_row(alloc, machine, meter, word, characters)?;
     Ok(())
 }
 

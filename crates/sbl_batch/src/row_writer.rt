@@ -103,38 +103,38 @@ impl RowWriter {
         }
         Ok(())
     }
-}
 
-/// Runs the script on a word of these characters, and appends the word's row to those that are not written yet. Returns `AllocError`
-/// if an allocation fails; the rows then stay.
-pub(crate) fn push_row(
-    alloc: Global,
-    machine: &Machine<Table>,
-    meter: &mut Meter,
-    rows: &mut RowWriter,
-    word: &str,
-    characters: &[char],
-) -> Result<(), AllocError>
-    requires is { characters.now ≡ chars word.now }
-    requires fits { length characters.now ≤ max_word_length }
-    requires between { IsBetweenLines rows.old.lines }
-    ensures row { (s : Source) → IsLinkedMachineOf machine.now s → OnOk result (rows.new.text.items ≡ rows.old.text.items ++ record_line (row_fields (row_of (under s default_limit) (chars word.now)))) }
-    ensures stays { OnErr result (rows.new.text.items ≡ rows.old.text.items) }
-    ensures between { OnOk result (IsBetweenLines rows.new.lines) }
-{
-    // The lines of a reader are fewer than a meter counts, so the only error is a failed allocation.
-    let Ok(end) = machine.run_untraced(alloc, meter, characters, DEFAULT_LIMIT) else {
-        return Err(AllocError);
-    };
-    rows.steps = rows.steps.saturating_add(end.used);
-    let (kind, text) = outcome_fields(&mut rows.stem, &end.outcome)?;
-    meter.reuse_stem(end.outcome);
-    push_line(
-        alloc,
-        &mut rows.lines,
-        &mut rows.text,
-        word.as_bytes(),
-        kind,
-        text,
-    )
+    /// Runs the script on a word of these characters, and appends the word's row to those that are not written yet. Returns
+    /// `AllocError` if an allocation fails; the rows then stay.
+    pub(crate) fn push_row(
+        &mut self,
+        alloc: Global,
+        machine: &Machine<Table>,
+        meter: &mut Meter,
+        word: &str,
+        characters: &[char],
+    ) -> Result<(), AllocError>
+        requires is { characters.now ≡ chars word.now }
+        requires fits { length characters.now ≤ max_word_length }
+        requires between { IsBetweenLines self.old.lines }
+        ensures row { (s : Source) → IsLinkedMachineOf machine.now s → OnOk result (self.new.text.items ≡ self.old.text.items ++ record_line (row_fields (row_of (under s default_limit) (chars word.now)))) }
+        ensures stays { OnErr result (self.new.text.items ≡ self.old.text.items) }
+        ensures between { OnOk result (IsBetweenLines self.new.lines) }
+    {
+        // The lines of a reader are fewer than a meter counts, so the only error is a failed allocation.
+        let Ok(end) = machine.run_untraced(alloc, meter, characters, DEFAULT_LIMIT) else {
+            return Err(AllocError);
+        };
+        self.steps = self.steps.saturating_add(end.used);
+        let (kind, text) = outcome_fields(&mut self.stem, &end.outcome)?;
+        meter.reuse_stem(end.outcome);
+        push_line(
+            alloc,
+            &mut self.lines,
+            &mut self.text,
+            word.as_bytes(),
+            kind,
+            text,
+        )
+    }
 }

@@ -19,4 +19,4 @@ returns-clause-pushes c = λ s made.
     let some = is_some c.args.characters.now _ c.is_empty.result c.is_empty.ensures c.if-is_empty.false (search rules) in
     let short : length c.args.characters.now ≤ 255 = search rules in
     let row = c.in_ok-push_row.ensures.row s made in
-    line-row s c.args.word.now c.args.rows.now.text.items (is_utf8-from_IsUtf8 c.args.word.now c.utf8.word) c.requires.is c.push_row.new.rows.text.items some short row
+    line-row s c.args.word.now c.args.rows.now.text.items (is_utf8-from_IsUtf8 c.args.word.now c.utf8.word) c.requires.is c.push_row.new.self.text.items some short row
