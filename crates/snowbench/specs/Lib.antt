@@ -9,3 +9,5 @@ pub mod FileRuns
 pub mod WholeFilter
 pub mod WholeList
 pub mod CommandLine
+-- what the functions inside the crate promise each other: nothing in these need be believed
+pub mod inside

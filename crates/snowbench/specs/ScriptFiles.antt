@@ -29,25 +29,24 @@ use Rattle.snowbench.specs.declared.script_files.FileFault.{FileFault}
 
 -- ---- lines
 
--- the number of the first line that has too many bytes, if so many lines are before these
-abbrev pub overlong_after : ℕ → List (List ℕ) → Option ℕ
-overlong_after n [] = None
-overlong_after n (line ∷ lines) = if nat_lt max_line (length line) then Some (n + 1) else overlong_after (n + 1) lines
+-- the number of the first line that passes a test, if so many lines are before these
+abbrev pub first_after : (List ℕ → Bool) → ℕ → List (List ℕ) → Option ℕ
+first_after test n [] = None
+first_after test n (line ∷ lines) = if test line then Some (n + 1) else first_after test (n + 1) lines
+
+-- the line has too many bytes
+abbrev pub is_overlong : List ℕ → Bool
+is_overlong line = nat_lt max_line (length line)
 
 abbrev pub overlong_line : List ℕ → Option ℕ
-overlong_line bytes = overlong_after 0 (lines_of bytes)
+overlong_line bytes = first_after is_overlong 0 (lines_of bytes)
 
 -- the line is UTF-8, with too many characters for a word
 abbrev pub is_long : List ℕ → Bool
 is_long line = is_utf8 line && nat_lt max_word_length (length (chars line))
 
--- the number of the first such line, if so many lines are before these
-abbrev pub long_after : ℕ → List (List ℕ) → Option ℕ
-long_after n [] = None
-long_after n (line ∷ lines) = if is_long line then Some (n + 1) else long_after (n + 1) lines
-
 abbrev pub long_line : List ℕ → Option ℕ
-long_line bytes = long_after 0 (lines_of bytes)
+long_line bytes = first_after is_long 0 (lines_of bytes)
 
 -- the fault of a reader or of memory at this line
 abbrev pub placed_at : ℕ → ServeFault → FileFault

@@ -2,9 +2,11 @@
 ghost use Rattle.std.specs.Prelude.{◌≡◌, ◌&&◌, ◌++◌, ◌∷◌, [], None, IfOk, IfErr, OnOk, length, map, nat_lt};
 ghost use Rattle.std.specs.Str.{chars, is_utf8};
 ghost use Rattle.sbl_bench.specs.KeptRuns.{contents_of};
+ghost use Rattle.sbl_io.specs.LinesOf.{lines_of};
 ghost use Rattle.sbl_script.specs.ParsedScript.{source_of};
 ghost use Rattle.sbl_semantics.specs.Limit.{max_word_length};
 ghost use Rattle.snowbench.specs.ScriptFiles as spec;
+ghost use Rattle.snowbench.specs.inside.LineMeasures.{is_over};
 
 use sbl_bench::{Bench, EditFault, MAX_WORD_LENGTH, Progress, WordKeys};
 use sbl_input::{LoadFault, text_line};
@@ -60,20 +62,11 @@ impl FilesFault {
     }
 }
 
-/// Returns the number of the first line, from 1, that has more bytes than a line may have.
-pub fn overlong_line(bytes: &[u8]) -> Option<u64>
-    ensures { result ≡ spec.overlong_line bytes.now }
-{
-    let mut rest = bytes;
-    let mut number: u64 = 0;
-    while let Some((line, after)) = first_line(rest) {
-        number += 1;
-        if line.len() > MAX_LINE {
-            return Some(number);
-        }
-        rest = after;
-    }
-    None
+/// What a line may have too many of.
+#[derive(Clone, Copy)]
+enum Measure {
+    Bytes,
+    Characters,
 }
 
 /// Returns whether a line is UTF-8, with more characters than a word may have.
@@ -86,20 +79,44 @@ fn is_long(line: &[u8]) -> bool
     }
 }
 
-/// Returns the number of the first line, from 1, that is UTF-8 and has more characters than a word may have.
-pub fn long_line(bytes: &[u8]) -> Option<u64>
-    ensures { result ≡ spec.long_line bytes.now }
+/// Returns whether a line has more bytes than a line may have, or, as UTF-8, more characters than a word may have.
+fn is_over(measure: Measure, line: &[u8]) -> bool
+    ensures { result ≡ is_over measure line.now }
+{
+    match measure {
+        Measure::Bytes => line.len() > MAX_LINE,
+        Measure::Characters => is_long(line),
+    }
+}
+
+/// Returns the number of the first line, from 1, that has too many of these.
+fn first_over(measure: Measure, bytes: &[u8]) -> Option<u64>
+    ensures { result ≡ spec.first_after (is_over measure) 0 (lines_of bytes.now) }
 {
     let mut rest = bytes;
     let mut number: u64 = 0;
     while let Some((line, after)) = first_line(rest) {
         number += 1;
-        if is_long(line) {
+        if is_over(measure, line) {
             return Some(number);
         }
         rest = after;
     }
     None
+}
+
+/// Returns the number of the first line, from 1, that has more bytes than a line may have.
+pub fn overlong_line(bytes: &[u8]) -> Option<u64>
+    ensures { result ≡ spec.overlong_line bytes.now }
+{
+    first_over(Measure::Bytes, bytes)
+}
+
+/// Returns the number of the first line, from 1, that is UTF-8 and has more characters than a word may have.
+pub fn long_line(bytes: &[u8]) -> Option<u64>
+    ensures { result ≡ spec.long_line bytes.now }
+{
+    first_over(Measure::Characters, bytes)
 }
 
 /// Returns the text of a script in a file: each line, followed by a line feed.

@@ -1,11 +1,12 @@
 use Rattle.std.proofs.Common.{◌≡◌, ◌+◌, ◌≤◌, length}
 use Rattle.sbl_io.specs.LinesOf.{lines_of}
-use Rattle.snowbench.specs.ScriptFiles.{overlong_after, overlong_line}
-use Rattle.snowbench.proofs.script_files.overlong_line.Given as goal
+use Rattle.snowbench.specs.ScriptFiles.{first_after}
+use Rattle.snowbench.specs.inside.LineMeasures.{is_over}
+use Rattle.snowbench.proofs.script_files.first_over.Given as goal
 
 abbrev pub invariant-loop-line : goal.invariant-loop-line
 invariant-loop-line l = record {
-  first : overlong_after l.number (lines_of l.rest) ≡ overlong_line l.fn.bytes;
+  first : first_after (is_over l.measure) l.number (lines_of l.rest) ≡ first_after (is_over l.measure) 0 (lines_of l.fn.bytes);
   numbered : l.number + length l.rest ≤ length l.fn.bytes;
 }
 
