@@ -1,10 +1,10 @@
 -- What follows a part of a tree follows its tokens: so a part is shallow by itself, and another may stand in its place.
-use Rattle.std.proofs.Common.{◌≡◌, ℕ, ◌+◌, true, false, List, [], ◌∷◌, ◌++◌, Some, None, refl, sym, ap, subst, ◌∙◌}
+use Rattle.std.proofs.Common.{◌≡◌, ℕ, ◌+◌, true, List, [], ◌∷◌, ◌++◌, Some, None, refl, sym, ap, subst, ◌∙◌}
 use Rattle.sbl_token.specs.Lexemes as l
 use Rattle.sbl_token.specs.declared.words.Word.TheVariants as words
 use Rattle.sbl_token.specs.declared.signs.Sign.TheVariants as signs
 use Rattle.sbl_ast.specs.Symbols as t
-use Rattle.sbl_ast.specs.Tree.{Expression, expression, Sums, no_sums, sum, Product, product, Scales, no_scales, scale, Factor, negated, bracketed, numeral, variable, fixed, length_of, Entry, entry, Command, bracket, simple_, literal_, name_, non_, prefixed, counted, move_, named, splice_, setlimit_, assign_, compare_, compare_values_, among_, Rows, no_rows, row, Others, no_others, joined, Starter, no_starter, starter, Groups, bare, group, Term, term, Plain, declaration, escapes, macro, routine, grouping}
+use Rattle.sbl_ast.specs.Tree.{Expression, expression, Sums, no_sums, sum, Product, product, Scales, no_scales, scale, Factor, negated, bracketed, Entry, entry, Command, bracket, non_, prefixed, counted, move_, setlimit_, assign_, compare_, compare_values_, among_, Rows, no_rows, row, Others, no_others, joined, Starter, no_starter, starter, Groups, bare, group, Term, term, Plain, declaration, escapes, macro, routine, grouping}
 use Rattle.sbl_ast.specs.Places.{AtDepth, placed_expression, placed_sums, placed_product, placed_scales, placed_factor, placed_entry, placed_entries, placed_command, placed_rows, placed_others, placed_starter, placed_groups, placed_terms, placed_plain, AreShallow}
 use Rattle.sbl_ast.specs.inside.PlaceParts.{placed_names}
 
@@ -36,10 +36,7 @@ mutual
   pub factor_before : (f : Factor) (d : ℕ) → IsBefore (placed_factor f d)
   factor_before (negated f) d r q = cons (l.sign signs.Minus, d + 1) (factor_before f (d + 1) r q)
   factor_before (bracketed x) d r q = cons (l.sign signs.Open, d + 1) (expression_before x (d + 1) ((l.sign signs.Close, d + 1) ∷ r) q)
-  factor_before (numeral n) d r q = refl
-  factor_before (variable n) d r q = refl
-  factor_before (fixed c) d r q = refl
-  factor_before (length_of a) d r q = refl
+  factor_before _ d r q = refl
 
 pub entry_before : (x : Entry) (d : ℕ) → IsBefore (placed_entry x d)
 entry_before (entry s None) d r q = refl
@@ -52,21 +49,16 @@ entries_before (x ∷ xs) d r q = ap (placed_entry x d) (entries_before xs d r q
 mutual
   pub tree_before : (c : Command) (d : ℕ) → IsBefore (placed_command c d)
   tree_before (bracket rs) d r q = cons (l.sign signs.Open, d) (rows_before rs (d + 1) ((l.sign signs.Close, d) ∷ r) q)
-  tree_before (simple_ s) d r q = refl
-  tree_before (literal_ s) d r q = refl
-  tree_before (name_ n) d r q = refl
   tree_before (non_ true n) d r q = refl
-  tree_before (non_ false n) d r q = refl
   tree_before (prefixed p c) d r q = cons (t.prefix p, d) (tree_before c (d + 1) r q)
   tree_before (counted n e c) d r q = cons (t.count n, d) (ap (placed_expression e d) (tree_before c (d + 1) r q) ∙ expression_before e d (placed_command c (d + 1) r) q)
   tree_before (move_ m e) d r q = cons (t.move m, d) (expression_before e d r q)
-  tree_before (named x n) d r q = refl
-  tree_before (splice_ x a) d r q = refl
   tree_before (setlimit_ b c) d r q = cons (l.word words.SetLimit, d) (ap (λ (z : Ps). placed_command b (d + 1) ((l.word words.For, d) ∷ z)) (tree_before c (d + 1) r q) ∙ tree_before b (d + 1) ((l.word words.For, d) ∷ placed_command c (d + 1) r) q)
   tree_before (assign_ n o e) d r q = cons (l.sign signs.Dollar, d) (cons (l.name n, d) (cons (t.assigns o, d) (expression_before e d r q)))
   tree_before (compare_ n o e) d r q = cons (l.sign signs.Dollar, d) (cons (l.name n, d) (cons (t.compares o, d) (expression_before e d r q)))
   tree_before (compare_values_ e o f) d r q = cons (l.sign signs.Dollar, d) (cons (l.sign signs.Open, d) (ap (λ (z : Ps). placed_expression e d ((t.compares o, d) ∷ z)) (expression_before f d ((l.sign signs.Close, d) ∷ r) q) ∙ expression_before e d ((t.compares o, d) ∷ placed_expression f d ((l.sign signs.Close, d) ∷ r)) q))
   tree_before (among_ s gs) d r q = cons (l.word words.Among, d) (cons (l.sign signs.Open, d) (ap (placed_starter s d) (groups_before gs d ((l.sign signs.Close, d) ∷ r) q) ∙ starter_before s d (placed_groups gs d ((l.sign signs.Close, d) ∷ r)) q))
+  tree_before _ d r q = refl
 
   pub rows_before : (rs : Rows) (d : ℕ) → IsBefore (placed_rows rs d)
   rows_before no_rows d r q = refl

@@ -28,7 +28,7 @@ use Rattle.sbl_ast.specs.declared.tree.Comparison.{Comparison}
 use Rattle.sbl_ast.specs.declared.tree.Comparison.TheVariants as comparisons
 use Rattle.sbl_ast.specs.declared.tree.Joiner.{Joiner}
 use Rattle.sbl_ast.specs.declared.tree.Joiner.TheVariants as joiners
-use Rattle.sbl_ast.specs.Tree.{Expression, expression, Sums, no_sums, sum, Product, product, Scales, no_scales, scale, Factor, negated, bracketed, numeral, variable, fixed, length_of, Argument, written_out, by_name, Entry, entry}
+use Rattle.sbl_ast.specs.Tree.{Expression, expression, Sums, no_sums, sum, Product, product, Scales, no_scales, scale, Factor, negated, bracketed, fixed, length_of, Argument, written_out, by_name, Entry, entry}
 use Rattle.sbl_ast.specs.Places.{AtDepth, placed_expression, placed_sums, placed_product, placed_scales, placed_factor, placed_entry, placed_entries}
 use Rattle.sbl_ast.specs.Replacement.{count_words, is_among}
 
@@ -42,80 +42,51 @@ IsOther x = is_among x ≡ false
 
 pub additive_other : (x : Additive) → IsOther (t.additive x)
 additive_other additives.Plus = refl
-additive_other additives.Minus = refl
+additive_other _ = refl
 
 pub multiplicative_other : (x : Multiplicative) → IsOther (t.multiplicative x)
 multiplicative_other multiplicatives.Times = refl
-multiplicative_other multiplicatives.Over = refl
+multiplicative_other _ = refl
 
 pub constant_other : (x : Constant) → IsOther (t.constant x)
 constant_other constants.Cursor = refl
-constant_other constants.Len = refl
-constant_other constants.Limit = refl
-constant_other constants.MaxInt = refl
-constant_other constants.MinInt = refl
+constant_other _ = refl
 
 pub simple_other : (x : Simple) → IsOther (t.simple x)
 simple_other simples.AtLimit = refl
-simple_other simples.Delete = refl
-simple_other simples.False = refl
-simple_other simples.Next = refl
-simple_other simples.Substring = refl
-simple_other simples.ToLimit = refl
-simple_other simples.True = refl
-simple_other simples.LeftBracket = refl
-simple_other simples.RightBracket = refl
+simple_other _ = refl
 
 pub prefix_other : (x : Prefix) → IsOther (t.prefix x)
 prefix_other prefixes.Backwards = refl
-prefix_other prefixes.Do = refl
-prefix_other prefixes.Fail = refl
-prefix_other prefixes.GoPast = refl
-prefix_other prefixes.GoTo = refl
-prefix_other prefixes.Not = refl
-prefix_other prefixes.Repeat = refl
-prefix_other prefixes.Test = refl
-prefix_other prefixes.Try = refl
+prefix_other _ = refl
 
 pub count_other : (x : Count) → IsOther (t.count x)
 count_other counts.AtLeast = refl
-count_other counts.Loop = refl
+count_other _ = refl
 
 pub move_other : (x : Move) → IsOther (t.move x)
 move_other moves.AtMark = refl
-move_other moves.Hop = refl
-move_other moves.ToMark = refl
+move_other _ = refl
 
 pub naming_other : (x : Naming) → IsOther (t.naming x)
 naming_other namings.Set = refl
-naming_other namings.SetMark = refl
-naming_other namings.Unset = refl
-naming_other namings.Arrow = refl
+naming_other _ = refl
 
 pub splice_other : (x : Splice) → IsOther (t.splice x)
 splice_other splices.Attach = refl
-splice_other splices.Insert = refl
-splice_other splices.Replace = refl
-splice_other splices.InsertSign = refl
+splice_other _ = refl
 
 pub assigns_other : (x : Assignment) → IsOther (t.assigns x)
 assigns_other assignments.Equals = refl
-assigns_other assignments.Plus = refl
-assigns_other assignments.Minus = refl
-assigns_other assignments.Times = refl
-assigns_other assignments.Over = refl
+assigns_other _ = refl
 
 pub compares_other : (x : Comparison) → IsOther (t.compares x)
 compares_other comparisons.Less = refl
-compares_other comparisons.Greater = refl
-compares_other comparisons.Same = refl
-compares_other comparisons.Differs = refl
-compares_other comparisons.AtMost = refl
-compares_other comparisons.AtLeast = refl
+compares_other _ = refl
 
 pub joiner_other : (x : Joiner) → IsOther (t.joiner x)
 joiner_other joiners.And = refl
-joiner_other joiners.Or = refl
+joiner_other _ = refl
 
 -- a token that is not the word
 pub count_after_other : (x : Lexeme) (d : ℕ) (r : Ps) → IsOther x → count_words ((x, d) ∷ r) ≡ count_words r
@@ -147,10 +118,9 @@ mutual
   factor_without : (f : Factor) (d : ℕ) → IsWithout (placed_factor f d)
   factor_without (negated f) d r = factor_without f (d + 1) r
   factor_without (bracketed x) d r = expression_without x (d + 1) ((lex.sign signs.Close, d + 1) ∷ r)
-  factor_without (numeral n) d r = refl
-  factor_without (variable n) d r = refl
   factor_without (fixed c) d r = count_after_other (t.constant c) d r (constant_other c)
   factor_without (length_of x) d r = argument_without x d r
+  factor_without _ d r = refl
 
 pub entry_without : (x : Entry) (d : ℕ) → IsWithout (placed_entry x d)
 entry_without (entry q None) d r = refl
