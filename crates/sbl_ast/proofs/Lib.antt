@@ -6,3 +6,4 @@ pub mod Held
 pub mod Walking
 pub mod Words
 pub mod Swapped
+pub mod PlacedTokens
