@@ -4,3 +4,4 @@ pub mod NumberingTables
 pub mod Marked
 pub mod SlotValues
 pub mod Seeking
+pub mod FurtherTerms

@@ -15,15 +15,11 @@ returns-then-number-len g c =
 pub returns-then-slot-self : goal.returns-then-slot-self
 returns-then-slot-self g c =
     let s = c.self.inside in
-    let slot = c.index-slot.result.now in
-    sym (set_slot s.round slot c.if-slot-self.true)
-    ∙ sym (value_of_slot s.round s.count c.args.number s.slots.items slot (omega arith) (omega arith) (search rules))
-    ∙ ap (λ vs. slice_index_or vs c.args.number None) c.self.view_is
+    sym (set_slot s.round c.index-slot.result.now c.if-slot-self.true)
+    ∙ sym (value_of_slot s.round s.count c.args.number s.slots.items c.index-slot.result.now (omega arith) (omega arith) (search rules)) ∙ ap (λ vs. slice_index_or vs c.args.number None) c.self.view_is
 
 pub returns-else-slot-self : goal.returns-else-slot-self
 returns-else-slot-self g c =
     let s = c.self.inside in
-    let slot = c.index-slot.result.now in
-    sym (other_slot s.round slot c.if-slot-self.false)
-    ∙ sym (value_of_slot s.round s.count c.args.number s.slots.items slot (omega arith) (omega arith) (search rules))
-    ∙ ap (λ vs. slice_index_or vs c.args.number None) c.self.view_is
+    sym (other_slot s.round c.index-slot.result.now c.if-slot-self.false)
+    ∙ sym (value_of_slot s.round s.count c.args.number s.slots.items c.index-slot.result.now (omega arith) (omega arith) (search rules)) ∙ ap (λ vs. slice_index_or vs c.args.number None) c.self.view_is

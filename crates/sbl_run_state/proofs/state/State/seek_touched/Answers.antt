@@ -11,9 +11,7 @@ pub pass_over-requires : goal.pass_over-requires
 pass_over-requires c =
     let s = c.args.self.now in
     let class = class_at (map members c.args.classes.now) c.args.number in
-    let cursor = ap (λ (t : State). t.cursor) c.self.view_is in
-    let len = ap (λ (t : State). length t.text) c.self.view_is in
-    let l : s.cursor ≤ length s.text = omega (arith, cursor, len, c.self.invariant.cursor_in) in
+    let l : s.cursor ≤ length s.text = omega (arith, ap (λ (t : State). t.cursor) c.self.view_is, ap (λ (t : State). length t.text) c.self.view_is, c.self.invariant.cursor_in) in
     let n = c.count_before-before.ensures ∙ ap (count_before c.args.wanted class) c.part_ahead-part.ensures.value in
     let k = count_in_room c.args.wanted class c.args.mode s l in
     omega (arith, k, n, c.if-steps-before.true)
@@ -26,9 +24,7 @@ returns-then-steps-before-clause-follows c =
     let before = c.count_before-before.result in
     let class = class_at (map members c.args.classes.now) c.args.number in
     let e : c.self.inside.steps ≡ s.steps = ap (λ (t : State). t.steps) c.self.view_is in
-    let cursor = ap (λ (t : State). t.cursor) c.self.view_is in
-    let len = ap (λ (t : State). length t.text) c.self.view_is in
-    let l : s.cursor ≤ length s.text = omega (arith, cursor, len, c.self.invariant.cursor_in) in
+    let l : s.cursor ≤ length s.text = omega (arith, ap (λ (t : State). t.cursor) c.self.view_is, ap (λ (t : State). length t.text) c.self.view_is, c.self.invariant.cursor_in) in
     let n : before ≡ count_before c.args.wanted class (ahead m s) = c.count_before-before.ensures ∙ ap (count_before c.args.wanted class) c.part_ahead-part.ensures.value in
     let short : s.steps ≤ before = omega (arith, e, c.if-steps-before.true) in
     seeks_is past c.args.wanted class c.args.number m s l c.requires
@@ -41,9 +37,7 @@ pub seek_over-requires-clause-there : goal.seek_over-requires-clause-there
 seek_over-requires-clause-there c =
     let s = c.args.self.now in
     let class = class_at (map members c.args.classes.now) c.args.number in
-    let cursor = ap (λ (t : State). t.cursor) c.self.view_is in
-    let len = ap (λ (t : State). length t.text) c.self.view_is in
-    let l : s.cursor ≤ length s.text = omega (arith, cursor, len, c.self.invariant.cursor_in) in
+    let l : s.cursor ≤ length s.text = omega (arith, ap (λ (t : State). t.cursor) c.self.view_is, ap (λ (t : State). length t.text) c.self.view_is, c.self.invariant.cursor_in) in
     let n = c.count_before-before.ensures ∙ ap (count_before c.args.wanted class) c.part_ahead-part.ensures.value in
     let k = count_in_room c.args.wanted class c.args.mode s l in
     omega (arith, k, n, c.part_ahead-part.ensures.len)
@@ -54,9 +48,7 @@ returns-clause-follows c =
     let m = c.args.mode in
     let past = c.args.past in
     let class = class_at (map members c.args.classes.now) c.args.number in
-    let cursor = ap (λ (t : State). t.cursor) c.self.view_is in
-    let len = ap (λ (t : State). length t.text) c.self.view_is in
-    let l : s.cursor ≤ length s.text = omega (arith, cursor, len, c.self.invariant.cursor_in) in
+    let l : s.cursor ≤ length s.text = omega (arith, ap (λ (t : State). t.cursor) c.self.view_is, ap (λ (t : State). length t.text) c.self.view_is, c.self.invariant.cursor_in) in
     let n = c.count_before-before.ensures ∙ ap (count_before c.args.wanted class) c.part_ahead-part.ensures.value in
     seeks_is past c.args.wanted class c.args.number m s l c.requires
     ∙ ap (λ n. seek_ending past m s.steps n (room m s) s) (sym n)
