@@ -59,25 +59,11 @@ expression_more e p s = subst (Extends s) (sym (expression_is e p s)) (walked_mo
 
 simple_more : (x : Simple) (p : Site) (s : List Occurrence) → Extends s (noted_simple x p s)
 simple_more simples.Substring p s = put_more substring p s
-simple_more simples.LeftBracket p s = same s
-simple_more simples.RightBracket p s = same s
-simple_more simples.Next p s = same s
-simple_more simples.ToLimit p s = same s
-simple_more simples.AtLimit p s = same s
-simple_more simples.Delete p s = same s
-simple_more simples.True p s = same s
-simple_more simples.False p s = same s
+simple_more _ p s = same s
 
 pub prefix_more : (x : Prefix) (p : Site) (s : List Occurrence) → Extends s (noted_prefix x p s)
 prefix_more prefixes.Backwards p s = put_more backwards p s
-prefix_more prefixes.Not p s = same s
-prefix_more prefixes.Test p s = same s
-prefix_more prefixes.Try p s = same s
-prefix_more prefixes.Do p s = same s
-prefix_more prefixes.Fail p s = same s
-prefix_more prefixes.Repeat p s = same s
-prefix_more prefixes.GoTo p s = same s
-prefix_more prefixes.GoPast p s = same s
+prefix_more _ p s = same s
 
 pub condition_more : (c : Option (List ℕ)) (p : Site) (s : List Occurrence) → Extends s (noted_condition c p s)
 condition_more None p s = same s

@@ -16,6 +16,15 @@ none_second : {X : Type 0} (a b : Option X) → option_or a b ≡ None → b ≡
 none_second (Some x) b e = absurd cc
 none_second None b e = e
 
+-- if a check and what comes after it find no fault, the check passes, and they find none
+pub test_fails : (b : Bool) (f : ScriptFault) (rest : Option ScriptFault) → cond b (Some f) rest ≡ None → b ≡ false
+test_fails true f rest e = absurd cc
+test_fails false f rest e = refl
+
+pub rest_fails : (b : Bool) (f : ScriptFault) (rest : Option ScriptFault) → cond b (Some f) rest ≡ None → rest ≡ None
+rest_fails true f rest e = absurd cc
+rest_fails false f rest e = e
+
 pub nothing : (b c : List Occurrence) (x : Occurrence) → [] ≡ b ++ x ∷ c → ⊥
 nothing [] c x e = cc
 nothing (y ∷ b) c x e = cc

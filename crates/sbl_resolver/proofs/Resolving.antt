@@ -14,6 +14,7 @@ use Rattle.sbl_resolver.specs.inside.CheckParts.{declared_as}
 use Rattle.sbl_resolver.specs.inside.CheckParts.{is_in_other}
 use Rattle.sbl_resolver.specs.Laws.{Resolves, NamesResolve, SubstringsArePaired}
 use Rattle.sbl_resolver.proofs.FirstFault as first
+use Rattle.sbl_resolver.proofs.FirstFault.{rest_fails, test_fails}
 
 or_assoc : {X : Type 0} (a b c : Option X) → option_or a (option_or b c) ≡ option_or (option_or a b) c
 or_assoc (Some x) b c = refl
@@ -22,14 +23,6 @@ or_assoc None b c = refl
 kind_of-append : (n : List ℕ) (xs ys : List Occurrence) → kind_of n (xs ++ ys) ≡ option_or (kind_of n xs) (kind_of n ys)
 kind_of-append n [] ys = refl
 kind_of-append n (x ∷ xs) ys = ap (option_or (declared_as n x.notice)) (kind_of-append n xs ys) ∙ or_assoc (declared_as n x.notice) (kind_of n xs) (kind_of n ys)
-
-test_fails : (b : Bool) (f : ScriptFault) (rest : Option ScriptFault) → cond b (Some f) rest ≡ None → b ≡ false
-test_fails true f rest e = absurd cc
-test_fails false f rest e = refl
-
-rest_fails : (b : Bool) (f : ScriptFault) (rest : Option ScriptFault) → cond b (Some f) rest ≡ None → rest ≡ None
-rest_fails true f rest e = absurd cc
-rest_fails false f rest e = e
 
 not_false : (b : Bool) → not b ≡ false → b ≡ true
 not_false true e = refl

@@ -1,12 +1,11 @@
 -- The strings of each among of a script that is well declared differ.
-use Rattle.std.proofs.Common.{◌≡◌, ℕ, ◌+◌, Bool, true, false, cond, ◌||◌, ◌&&◌, nat_eq, List, [], ◌∷◌, ◌++◌, Option, Some, None, map, refl, sym, subst, ◌∙◌, append_assoc, append-nil}
+use Rattle.std.proofs.Common.{◌≡◌, ℕ, ◌+◌, Bool, true, false, cond, ◌||◌, ◌&&◌, nat_eq, List, [], ◌∷◌, ◌++◌, Some, None, map, refl, sym, subst, ◌∙◌, append_assoc, append-nil}
 use Rattle.std.specs.List.{list_any, IsDistinct}
 use Rattle.std.specs.Str.{bytes_eq}
 use Rattle.std.specs.Cmp.{IsEquivalence}
 use Rattle.std.proofs.lemmas.Cmp.{nat_list_eq_equiv, nat_eq_equiv}
 use Rattle.std.proofs.lemmas.List.Folds.{list_any-append}
 use Rattle.std.proofs.lemmas.Map.Keys.{IsDistinct-push}
-use Rattle.sbl_text.specs.declared.fault.ScriptFault.{ScriptFault}
 use Rattle.sbl_text.specs.declared.fault.ScriptFault.TheVariants as fault
 use Rattle.sbl_ast.specs.Tree.{Entry, entry, Command, bracket, simple_, literal_, name_, non_, prefixed, counted, move_, named, splice_, setlimit_, assign_, compare_, compare_values_, among_, Rows, no_rows, row, Others, no_others, joined, Starter, no_starter, starter, Groups, bare, group, Plain, declaration, escapes, macro, routine, grouping, Item, plain, backward}
 use Rattle.sbl_ast.specs.Order.{ItemInMode, in_order}
@@ -22,6 +21,7 @@ use Rattle.sbl_resolver.specs.inside.CheckParts.{has_text}
 use Rattle.sbl_resolver.specs.Laws.{EachPasses}
 use Rattle.sbl_resolver.specs.Amongs.{text_of, texts_of, IsSound, EachAmong, EachAmongOfRows, EachAmongOfOthers, EachAmongOfStarter, EachAmongOfGroups, EachAmongOfPlain, EachAmongOfPlains, EachAmongOfItems, AmongsAreSound}
 use Rattle.sbl_resolver.proofs.FirstFault as first
+use Rattle.sbl_resolver.proofs.FirstFault.{rest_fails, test_fails}
 use Rattle.sbl_resolver.proofs.Extends.{Extends, same, then_, put_more, condition_more, entries_more, command_more, rows_more, others_more, starter_more, groups_more, items_more}
 
 -- a list of occurrences at which no check fails
@@ -31,14 +31,6 @@ pub record Passing (all : List Occurrence) : Type 0 where
 -- no check fails at an occurrence after which the list goes on
 at_mark : (all s : List Occurrence) (m : Occurrence) → Passing all → Extends (s ++ m ∷ []) all → (more : List Occurrence) × (fault_at all s m more ≡ None)
 at_mark all s m passing e = (e.more, passing.each s e.more m (e.is ∙ append_assoc s (m ∷ []) e.more))
-
-test_fails : (b : Bool) (f : ScriptFault) (rest : Option ScriptFault) → cond b (Some f) rest ≡ None → b ≡ false
-test_fails true f rest e = absurd cc
-test_fails false f rest e = refl
-
-rest_fails : (b : Bool) (f : ScriptFault) (rest : Option ScriptFault) → cond b (Some f) rest ≡ None → rest ≡ None
-rest_fails true f rest e = absurd cc
-rest_fails false f rest e = e
 
 string_new : (all s more : List Occurrence) (p : Site) (o : ℕ) (t : List ℕ) → fault_at all s (record { site = p; notice = string o t }) more ≡ None → has_text p.item o t s ≡ false
 string_new all s more p o t e = test_fails (has_text p.item o t s) (fault.RepeatedString p.item) None e

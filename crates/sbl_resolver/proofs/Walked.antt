@@ -12,7 +12,7 @@ use Rattle.sbl_ast.specs.Symbols as t
 use Rattle.sbl_token.specs.Lexemes as lex
 use Rattle.sbl_token.specs.declared.signs.Sign.TheVariants as signs
 use Rattle.sbl_ast.specs.Places.{AtDepth, tokens, placed_expression, placed_sums, placed_product, placed_scales, placed_factor}
-use Rattle.sbl_ast.specs.Tree.{written_out, by_name, Expression, expression, Sums, no_sums, sum, Product, product, Scales, no_scales, scale, Factor, negated, bracketed, numeral, variable, fixed, length_of, Command, prefixed, among_, Starter, no_starter, starter, Groups}
+use Rattle.sbl_ast.specs.Tree.{written_out, Expression, expression, Sums, no_sums, sum, Product, product, Scales, no_scales, scale, Factor, negated, bracketed, fixed, length_of, Command, prefixed, among_, Starter, no_starter, starter, Groups}
 use Rattle.sbl_resolver.specs.declared.occurrences.Site.{Site}
 use Rattle.sbl_resolver.specs.Occurrences.{Occurrence, noted_tokens, noted_expression, noted_command}
 use Rattle.sbl_resolver.specs.OccurrenceView.{walked_expression, noted_sums, noted_product, noted_scales, noted_factor, noted_prefix, site_after, noted_among}
@@ -32,10 +32,7 @@ past_multiplicative multiplicatives.Over d rest p s = refl
 
 past_constant : (c : Constant) (d : ℕ) (rest : List AtDepth) (p : Site) (s : List Occurrence) → notes_of ((t.constant c, d) ∷ rest) p s ≡ notes_of rest p s
 past_constant constants.Cursor d rest p s = refl
-past_constant constants.Len d rest p s = refl
-past_constant constants.Limit d rest p s = refl
-past_constant constants.MaxInt d rest p s = refl
-past_constant constants.MinInt d rest p s = refl
+past_constant _ d rest p s = refl
 
 mutual
   in_expression : (e : Expression) (d : ℕ) (rest : List AtDepth) (p : Site) (s : List Occurrence) → notes_of (placed_expression e d rest) p s ≡ notes_of rest p (walked_expression e p s)
@@ -55,25 +52,16 @@ mutual
   in_factor : (f : Factor) (d : ℕ) (rest : List AtDepth) (p : Site) (s : List Occurrence) → notes_of (placed_factor f d rest) p s ≡ notes_of rest p (noted_factor f p s)
   in_factor (negated f) d rest p s = in_factor f (d + 1) rest p s
   in_factor (bracketed e) d rest p s = in_expression e (d + 1) ((lex.sign signs.Close, d + 1) ∷ rest) p s
-  in_factor (numeral n) d rest p s = refl
-  in_factor (variable n) d rest p s = refl
   in_factor (fixed c) d rest p s = past_constant c d rest p s
   in_factor (length_of (written_out q)) d rest p s = refl
-  in_factor (length_of (by_name n)) d rest p s = refl
+  in_factor _ d rest p s = refl
 
 pub expression_is : (e : Expression) (p : Site) (s : List Occurrence) → noted_expression e p s ≡ walked_expression e p s
 expression_is e p s = in_expression e 0 [] p s
 
 pub prefixed_is : (x : Prefix) (c : Command) (p : Site) (s : List Occurrence) → noted_command (prefixed x c) p s ≡ noted_command c (site_after x p) (noted_prefix x p s)
 prefixed_is prefixes.Backwards c p s = refl
-prefixed_is prefixes.Not c p s = refl
-prefixed_is prefixes.Test c p s = refl
-prefixed_is prefixes.Try c p s = refl
-prefixed_is prefixes.Do c p s = refl
-prefixed_is prefixes.Fail c p s = refl
-prefixed_is prefixes.Repeat c p s = refl
-prefixed_is prefixes.GoTo c p s = refl
-prefixed_is prefixes.GoPast c p s = refl
+prefixed_is _ c p s = refl
 
 pub among_is : (x : Starter) (gs : Groups) (p : Site) (s : List Occurrence) → noted_command (among_ x gs) p s ≡ noted_among x gs p s
 among_is no_starter gs p s = refl
