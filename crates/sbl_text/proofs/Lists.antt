@@ -142,16 +142,13 @@ first_of_all first source s from u rest f ts b h = first_fault first source s fr
 -- ---- a token takes something
 
 pub some_text : (e : Option Inserts) (k : Shape) (x : List ℕ) → Has e k x → 0 < length x
-some_text e shape.Blank x h = let l = ap length h.1 in omega arith
-some_text e shape.LineComment x h = let l = ap length h.1 in omega arith
-some_text e shape.BlockComment x h = let l = ap length h.1 in omega arith
 some_text e shape.Word x h = let l = ap length h.2 in omega arith
 some_text e shape.Number x h = let l = ap length h.2 in omega arith
-some_text e shape.Literal x h = let l = ap length h.1 in omega arith
 some_text e shape.Inserts x h = let l = ap length h.2 in omega arith
 some_text e shape.MacroName x h = let l = ap length h.2 in omega arith
 some_text e shape.Sign [] h = absurd (let k = sign_found_as [] h.0 h.1 in cc)
 some_text e shape.Sign (c ∷ x) h = omega arith
+some_text e _ x h = let l = ap length h.1 in omega arith
 
 gaps_shorter : (s : Directives) (text rest : List ℕ) (gs : List Gap) → AreGaps (setting_of s) text gs rest → length rest ≤ length text
 gaps_shorter s text rest [] h = let l = ap length h in omega arith

@@ -19,7 +19,7 @@ use Rattle.sbl_text.specs.Literals.{byte_length, Means, FirstWrong, is_closed}
 use Rattle.sbl_text.specs.Pieces.{is_inner, Setting, NoPiece, Gap, AreGaps, AfterGaps}
 use Rattle.sbl_text.specs.inside.PieceParts.{setting}
 use Rattle.sbl_text.specs.Scan.{Piece_at}
-use Rattle.sbl_token.specs.Lexemes.{Lexeme, word, sign, name, number, literal, inserts, macro_name, lexeme_of, SaysFitting}
+use Rattle.sbl_token.specs.Lexemes.{Lexeme, literal, lexeme_of, SaysFitting}
 use Rattle.sbl_text.specs.Directives.{Directives, Defining, setting_of, value_for}
 use Rattle.sbl_text.specs.inside.DirectiveParts.{no_directive, defined_by}
 use Rattle.sbl_text.specs.Tokens.{IsLexeme, MayEnd, IsRefused, fault_at, Stops, Comes}
@@ -116,15 +116,8 @@ lacking s source from rest t (literal spelling v) f is c (inr h) =
     refused_as shape.Sign x spelling v n f told none eq = absurd (let e = told.2 in cc)
     refused_as shape.Inserts x spelling v n f told none eq = absurd (cc)
     refused_as shape.MacroName x spelling v n f told none eq = absurd (cc)
-    refused_as shape.Blank x spelling v n f told none eq = absurd told
-    refused_as shape.LineComment x spelling v n f told none eq = absurd told
-    refused_as shape.BlockComment x spelling v n f told none eq = absurd told
-lacking s source from rest t (word w) f is c (inr h) = absurd h.0
-lacking s source from rest t (sign g) f is c (inr h) = absurd h.0
-lacking s source from rest t (name n) f is c (inr h) = absurd h.0
-lacking s source from rest t (number n) f is c (inr h) = absurd h.0
-lacking s source from rest t (inserts a b) f is c (inr h) = absurd h.0
-lacking s source from rest t (macro_name n) f is c (inr h) = absurd h.0
+    refused_as _ x spelling v n f told none eq = absurd told
+lacking s source from rest t _ f is c (inr h) = absurd h.0
 
 -- ---- literals
 

@@ -100,9 +100,7 @@ same_text s shape.Literal t l u n told = sym (ap lexeme_text told.4 ∙ sym (enc
 same_text s shape.Inserts t l u n told = sym (ap lexeme_text told.3 ∙ ap encode_utf8_all (sym told.2) ∙ encodes-chars t u)
 same_text s shape.MacroName t l u n told = sym (ap lexeme_text told ∙ encodes-chars t u)
 same_text s shape.Number t l u n told = absurd (n refl)
-same_text s shape.Blank t l u n told = absurd told
-same_text s shape.LineComment t l u n told = absurd told
-same_text s shape.BlockComment t l u n told = absurd told
+same_text s _ t l u n told = absurd told
 
 -- ---- numbers
 
@@ -152,12 +150,7 @@ no_gap : (s : Directives) (k : Shape) (x : List ℕ) (l : Lexeme) → IsLexeme s
 no_gap s shape.Blank x l h = absurd h
 no_gap s shape.LineComment x l h = absurd h
 no_gap s shape.BlockComment x l h = absurd h
-no_gap s shape.Word x l h = refl
-no_gap s shape.Number x l h = refl
-no_gap s shape.Sign x l h = refl
-no_gap s shape.Literal x l h = refl
-no_gap s shape.Inserts x l h = refl
-no_gap s shape.MacroName x l h = refl
+no_gap s _ x l h = refl
 
 said_as_written : (s : Directives) (l : Lexeme) (k : Shape) (t : List ℕ) → IsSaidBy s l k t → IsSaidBy s l k (lexeme_text l)
 said_as_written s l k t h = by k h
@@ -222,9 +215,7 @@ no_longer e shape.MacroName x c z w i h g =
 no_longer e shape.Sign x c z w i h g = sign_ends x c z h.0 g.0 w (sign_found_as x h.0 h.1) (sign_found_as (x ++ c ∷ z) g.0 g.1)
 no_longer e shape.Literal x c z w i h g = literal_stops e x c z h g
 no_longer e shape.Inserts x c z w i h g = omega (arith, ap length h.2, ap length g.2, length-append x (c ∷ z))
-no_longer e shape.Blank x c z w i h g = absurd cc
-no_longer e shape.LineComment x c z w i h g = absurd cc
-no_longer e shape.BlockComment x c z w i h g = absurd cc
+no_longer e _ x c z w i h g = absurd cc
 
 comment_no_white : (d : ℕ) → d == 47 || d == 42 ≡ true → is_white d ≡ false
 comment_no_white d h = grind (arith, nat_tests)

@@ -183,12 +183,7 @@ told_gap : (s : Directives) (k : Shape) (x : List ℕ) (l : Lexeme) → is_gap k
 told_gap s shape.Blank x l g h = h
 told_gap s shape.LineComment x l g h = h
 told_gap s shape.BlockComment x l g h = h
-told_gap s shape.Word x l g h = cc
-told_gap s shape.Number x l g h = cc
-told_gap s shape.Sign x l g h = cc
-told_gap s shape.Literal x l g h = cc
-told_gap s shape.Inserts x l g h = cc
-told_gap s shape.MacroName x l g h = cc
+told_gap s _ x l g h = cc
 
 same_inner : (x inner other : List ℕ) → x ≡ 39 ∷ (inner ++ 39 ∷ []) → x ≡ 39 ∷ (other ++ 39 ∷ []) → inner ≡ other
 same_inner x inner other a b = append_cancel_right inner other (39 ∷ []) (let h = sym a ∙ b in cc)
@@ -282,12 +277,7 @@ refused_says s shape.Literal x n f (Some l) h m = literal_refused h.2
     literal_refused (inr w) =
         let v = means_one s.escapes h.0 m.0.1 w.0 means w.1 in absurd (let e : Some value.0 ≡ None = sym value.1 ∙ ap (value_for s.defining) v ∙ w.2 in cc)
 refused_says s shape.Blank x n f o h m = h
-refused_says s shape.LineComment x n f o h m = h
-refused_says s shape.BlockComment x n f o h m = h
-refused_says s shape.Word x n f o h m = h
-refused_says s shape.Sign x n f o h m = h
-refused_says s shape.Inserts x n f o h m = h
-refused_says s shape.MacroName x n f o h m = h
+refused_says s _ x n f o h m = h
 
 literal_refused_one : (s : Directives) (inner : List ℕ) (n : ℕ) (f g : ScriptFault) → FirstWrong s.escapes inner (n + 1) f ⊎ ((v : List ℕ) × Means s.escapes inner v × (value_for s.defining v ≡ None) × (f ≡ fault.BadCode n))
     → FirstWrong s.escapes inner (n + 1) g ⊎ ((v : List ℕ) × Means s.escapes inner v × (value_for s.defining v ≡ None) × (g ≡ fault.BadCode n)) → f ≡ g
@@ -302,13 +292,7 @@ refused_one s shape.Literal x n f g a b =
     let d = same_inner x a.0 b.0 a.1 b.1 in
     literal_refused_one s b.0 n f g
     (subst (λ (t : List ℕ). FirstWrong s.escapes t (n + 1) f ⊎ ((v : List ℕ) × Means s.escapes t v × (value_for s.defining v ≡ None) × (f ≡ fault.BadCode n))) d a.2) b.2
-refused_one s shape.Blank x n f g a b = absurd a
-refused_one s shape.LineComment x n f g a b = absurd a
-refused_one s shape.BlockComment x n f g a b = absurd a
-refused_one s shape.Word x n f g a b = absurd a
-refused_one s shape.Sign x n f g a b = absurd a
-refused_one s shape.Inserts x n f g a b = absurd a
-refused_one s shape.MacroName x n f g a b = absurd a
+refused_one s _ x n f g a b = absurd a
 
 -- no piece without fault stands where a fault does
 fault_stops : (s : Directives) (text : List ℕ) (n : ℕ) (f : ScriptFault) (u : Directives) (r : List ℕ) (us : List Piece) → IsFault s text n f → AreCut s text us u r → us ≡ []

@@ -213,26 +213,14 @@ unfolding pair_cut
 longest_pair e shape.Blank y more h may = subst (λ (t : List ℕ). LeavesCut shape.Blank (length more) (pair_cut (t ++ more))) (sym h.1) (rw h.2 (refl, omega arith))
 longest_pair e shape.Inserts y more h may =
     subst (λ (t : List ℕ). LeavesCut shape.Inserts (length more) (pair_cut (t ++ more))) (sym h.2) (rw (h.4, h.3, h.5) (refl, omega arith))
-longest_pair e shape.Word y more h may = absurd (cc)
-longest_pair e shape.Number y more h may = absurd (cc)
-longest_pair e shape.LineComment y more h may = absurd (cc)
-longest_pair e shape.BlockComment y more h may = absurd (cc)
-longest_pair e shape.Literal y more h may = absurd (cc)
-longest_pair e shape.Sign y more h may = absurd (cc)
-longest_pair e shape.MacroName y more h may = absurd (cc)
+longest_pair e _ y more h may = absurd (cc)
 
 longest_name : (e : Option Inserts) (k : Shape) (y more : List ℕ) → Has e k y → may_come wanted.MacroName k ≡ true → LeavesCut k (length more) (name_cut (y ++ more))
 unfolding name_cut
 longest_name e shape.Blank y more h may = subst (λ (t : List ℕ). LeavesCut shape.Blank (length more) (name_cut (t ++ more))) (sym h.1) (rw h.2 (refl, omega arith))
 longest_name e shape.MacroName y more h may =
     subst (λ (t : List ℕ). LeavesCut shape.MacroName (length more) (name_cut (t ++ more))) (sym h.2) (rw h.3 (refl, run_longest (λ d. not (is_white d)) h.1 more h.4))
-longest_name e shape.Word y more h may = absurd (cc)
-longest_name e shape.Number y more h may = absurd (cc)
-longest_name e shape.LineComment y more h may = absurd (cc)
-longest_name e shape.BlockComment y more h may = absurd (cc)
-longest_name e shape.Literal y more h may = absurd (cc)
-longest_name e shape.Sign y more h may = absurd (cc)
-longest_name e shape.Inserts y more h may = absurd (cc)
+longest_name e _ y more h may = absurd (cc)
 
 longest_in : (e : Option Inserts) (w : Expectation) (k : Shape) (y more : List ℕ) → Has e k y → may_come w k ≡ true → (k ≡ shape.Sign → BeginsComment (y ++ more) → ⊥) → LeavesCut k (length more) (cut_in e w (y ++ more))
 longest_in e wanted.Token k y more h may free = longest_token e k y more h may free
