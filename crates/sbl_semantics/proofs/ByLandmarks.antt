@@ -96,14 +96,7 @@ module _ (ns : DeclaredNames) (class : List ℕ → ℕ → Bool) (call : List �
   simples_do simples.Substring ls r i k w n h m s =
       let is : among_for ls i ≡ n = among_here (substring ∷ []) h ∙ ap (λ (y : ℕ). next_among y h.rest) (none_more k) ∙ sym h.next in
       ap (λ (o : Option Among). ahead o m s) is
-  simples_do simples.LeftBracket ls r i k w n h m s = refl
-  simples_do simples.RightBracket ls r i k w n h m s = refl
-  simples_do simples.Next ls r i k w n h m s = refl
-  simples_do simples.ToLimit ls r i k w n h m s = refl
-  simples_do simples.AtLimit ls r i k w n h m s = refl
-  simples_do simples.Delete ls r i k w n h m s = refl
-  simples_do simples.True ls r i k w n h m s = refl
-  simples_do simples.False ls r i k w n h m s = refl
+  simples_do _ ls r i k w n h m s = refl
 
   -- what an among does, given whether its search was made, its search, its starter, its groups and its number
   abbrev among_does : Bool → Doing → (State → Ending) → (ℕ → State → Ending) → ℕ → Mode → State → Ending

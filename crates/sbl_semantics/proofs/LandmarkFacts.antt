@@ -153,14 +153,7 @@ mutual
 
 pub not_waiting : (x : Simple) (m : Mode) (k : ℕ) (n : Option Among) (rest : List Landmark) → n ≡ next_among k rest → n ≡ next_among k (landmarks m (simple_ x) ++ rest)
 not_waiting simples.Substring m k n rest h = h
-not_waiting simples.LeftBracket m k n rest h = h
-not_waiting simples.RightBracket m k n rest h = h
-not_waiting simples.Next m k n rest h = h
-not_waiting simples.ToLimit m k n rest h = h
-not_waiting simples.AtLimit m k n rest h = h
-not_waiting simples.Delete m k n rest h = h
-not_waiting simples.True m k n rest h = h
-not_waiting simples.False m k n rest h = h
+not_waiting _ m k n rest h = h
 
 mutual
   pub first_is : (t : Command) (m : Mode) (k : ℕ) (n : Option Among) (rest : List Landmark) → n ≡ next_among (number_after t k) rest → first m t k n ≡ next_among k (landmarks m t ++ rest)
@@ -177,10 +170,8 @@ mutual
   first_is (setlimit_ b c) m k n rest h =
       first_is b m k (first m c (number_after b k) n) (landmarks m c ++ rest) (first_is c m (number_after b k) n rest h)
       ∙ ap (next_among k) (sym (append_assoc (landmarks m b) (landmarks m c) rest))
-  first_is (assign_ x y z) m k n rest h = h
-  first_is (compare_ x y z) m k n rest h = h
-  first_is (compare_values_ x y z) m k n rest h = h
   first_is (among_ s gs) m k n rest h = refl
+  first_is _ m k n rest h = h
 
   pub first_rows_is : (rs : Rows) (m : Mode) (k : ℕ) (n : Option Among) (rest : List Landmark) → n ≡ next_among (number_after_rows rs k) rest → first_rows m rs k n ≡ next_among k (landmarks_in_rows m rs ++ rest)
   first_rows_is no_rows m k n rest h = h

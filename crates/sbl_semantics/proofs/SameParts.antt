@@ -152,36 +152,7 @@ mutual
   factor_is (variable m) (variable n) e = ap variable (name_is m n e)
   factor_is (fixed c) (fixed d) e = ap fixed (constant_is c d e)
   factor_is (length_of a) (length_of b) e = ap length_of (argument_is a b e)
-  factor_is (negated a) (bracketed b) e = never e
-  factor_is (negated a) (numeral b) e = never e
-  factor_is (negated a) (variable b) e = never e
-  factor_is (negated a) (fixed b) e = never e
-  factor_is (negated a) (length_of b) e = never e
-  factor_is (bracketed a) (negated b) e = never e
-  factor_is (bracketed a) (numeral b) e = never e
-  factor_is (bracketed a) (variable b) e = never e
-  factor_is (bracketed a) (fixed b) e = never e
-  factor_is (bracketed a) (length_of b) e = never e
-  factor_is (numeral a) (negated b) e = never e
-  factor_is (numeral a) (bracketed b) e = never e
-  factor_is (numeral a) (variable b) e = never e
-  factor_is (numeral a) (fixed b) e = never e
-  factor_is (numeral a) (length_of b) e = never e
-  factor_is (variable a) (negated b) e = never e
-  factor_is (variable a) (bracketed b) e = never e
-  factor_is (variable a) (numeral b) e = never e
-  factor_is (variable a) (fixed b) e = never e
-  factor_is (variable a) (length_of b) e = never e
-  factor_is (fixed a) (negated b) e = never e
-  factor_is (fixed a) (bracketed b) e = never e
-  factor_is (fixed a) (numeral b) e = never e
-  factor_is (fixed a) (variable b) e = never e
-  factor_is (fixed a) (length_of b) e = never e
-  factor_is (length_of a) (negated b) e = never e
-  factor_is (length_of a) (bracketed b) e = never e
-  factor_is (length_of a) (numeral b) e = never e
-  factor_is (length_of a) (variable b) e = never e
-  factor_is (length_of a) (fixed b) e = never e
+  factor_is _ _ e = never e
 
 condition_is : (x y : Option (List ℕ)) → option_eq bytes_eq x y ≡ true → x ≡ y
 condition_is None None e = refl
