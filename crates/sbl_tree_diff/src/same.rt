@@ -26,6 +26,26 @@ macro_rules! alike {
     }};
 }
 
+/// Whether two lists have as many elements, and each element of one is the same as that of the other in its place.
+macro_rules! all_same {
+    ($one:ident, $other:ident; $first:ident, $second:ident => $same:expr) => {{
+        let mut others = $other.as_slice();
+        for $first in $one {
+            let [$second, rest @ ..] = others else {
+                return false;
+            };
+            if !$same {
+                return false;
+            }
+            others = rest;
+        }
+        match others {
+            [] => true,
+            [_second, _rest @ ..] => false,
+        }
+    }};
+}
+
 pub(crate) use alike;
 
 /// Whether two flags are the same.
@@ -68,26 +88,6 @@ pub(crate) fn same_expression(one: &Expression, other: &Expression) -> bool
 }
 
 #[cycle(same_arithmetic)]
-fn same_sums(one: &Vec<NextProduct>, other: &Vec<NextProduct>) -> bool
-    ensures { result ≡ spec.same_sums (view_sums one.now.items) (view_sums other.now.items) }
-{
-    let mut others = other.as_slice();
-    for first in one {
-        let [second, rest @ ..] = others else {
-            return false;
-        };
-        if !(first.operator == second.operator && same_product(&first.product, &second.product)) {
-            return false;
-        }
-        others = rest;
-    }
-    match others {
-        [] => true,
-        [_second, _rest @ ..] => false,
-    }
-}
-
-#[cycle(same_arithmetic)]
 fn same_product(one: &Product, other: &Product) -> bool
     ensures { result ≡ spec.same_product (view_product one.now) (view_product other.now) }
 {
@@ -95,23 +95,21 @@ fn same_product(one: &Product, other: &Product) -> bool
 }
 
 #[cycle(same_arithmetic)]
+fn same_sums(one: &Vec<NextProduct>, other: &Vec<NextProduct>) -> bool
+    ensures { result ≡ spec.same_sums (view_sums one.now.items) (view_sums other.now.items) }
+{
+    all_same!(one, other; first, second => {
+        first.operator == second.operator && same_product(&first.product, &second.product)
+    })
+}
+
+#[cycle(same_arithmetic)]
 fn same_scales(one: &Vec<NextFactor>, other: &Vec<NextFactor>) -> bool
     ensures { result ≡ spec.same_scales (view_scales one.now.items) (view_scales other.now.items) }
 {
-    let mut others = other.as_slice();
-    for first in one {
-        let [second, rest @ ..] = others else {
-            return false;
-        };
-        if !(first.operator == second.operator && same_factor(&first.factor, &second.factor)) {
-            return false;
-        }
-        others = rest;
-    }
-    match others {
-        [] => true,
-        [_second, _rest @ ..] => false,
-    }
+    all_same!(one, other; first, second => {
+        first.operator == second.operator && same_factor(&first.factor, &second.factor)
+    })
 }
 
 #[cycle(same_arithmetic)]
@@ -125,20 +123,7 @@ fn same_factor(one: &Factor, other: &Factor) -> bool
         (Factor::Name(one), Factor::Name(other)) => one.as_str() == other.as_str(),
         (Factor::Constant(one), Factor::Constant(other)) => *one == *other,
         (Factor::LenOf(one), Factor::LenOf(other)) => same_argument(one, other),
-        (
-            Factor::Minus(_)
-            | Factor::Bracket(_)
-            | Factor::Number(_)
-            | Factor::Name(_)
-            | Factor::Constant(_)
-            | Factor::LenOf(_),
-            Factor::Minus(_)
-            | Factor::Bracket(_)
-            | Factor::Number(_)
-            | Factor::Name(_)
-            | Factor::Constant(_)
-            | Factor::LenOf(_),
-        ) => false,
+        _ => false,
     }
 }
 
@@ -162,17 +147,7 @@ fn same_entry(one: &Entry, other: &Entry) -> bool
 pub(crate) fn same_entries(one: &Vec<Entry>, other: &Vec<Entry>) -> bool
     ensures { result ≡ pointwise spec.same_entry (map view_entry one.now.items) (map view_entry other.now.items) }
 {
-    let mut others = other.as_slice();
-    for first in one {
-        let [second, rest @ ..] = others else {
-            return false;
-        };
-        if !same_entry(first, second) {
-            return false;
-        }
-        others = rest;
-    }
-    others.is_empty()
+    all_same!(one, other; first, second => same_entry(first, second))
 }
 
 /// Whether two groups have the same strings.
@@ -186,17 +161,7 @@ pub(crate) fn same_strings(one: &Group, other: &Group) -> bool
 pub(crate) fn same_names(one: &Vec<String>, other: &Vec<String>) -> bool
     ensures { result ≡ pointwise bytes_eq (map string_bytes one.now.items) (map string_bytes other.now.items) }
 {
-    let mut others = other.as_slice();
-    for first in one {
-        let [second, rest @ ..] = others else {
-            return false;
-        };
-        if first.as_str() != second.as_str() {
-            return false;
-        }
-        others = rest;
-    }
-    others.is_empty()
+    all_same!(one, other; first, second => { first.as_str() == second.as_str() })
 }
 
 /// Whether two bases are the same, or there is neither.
@@ -214,17 +179,7 @@ pub(crate) fn same_base(one: &Option<Base>, other: &Option<Base>) -> bool
 pub(crate) fn same_terms(one: &Vec<Term>, other: &Vec<Term>) -> bool
     ensures { result ≡ pointwise spec.same_term (map view_term one.now.items) (map view_term other.now.items) }
 {
-    let mut others = other.as_slice();
-    for first in one {
-        let [second, rest @ ..] = others else {
-            return false;
-        };
-        if !(first.operator == second.operator
-            && same_argument(&first.argument, &second.argument))
-        {
-            return false;
-        }
-        others = rest;
-    }
-    others.is_empty()
+    all_same!(one, other; first, second => {
+        first.operator == second.operator && same_argument(&first.argument, &second.argument)
+    })
 }
