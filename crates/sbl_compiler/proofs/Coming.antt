@@ -17,7 +17,7 @@ use Rattle.sbl_program.specs.Chains.{join}
 use Rattle.sbl_compiler.specs.NumberedItems.{Position, next_of, inside, end_waiting, past, past_simple, past_rows, past_others, past_starter, past_groups, begin_region, region, search_next, simple, after_prefix, after_count, numbered_command, numbered_rows, numbered_others, numbered_starter, numbered_groups}
 use Rattle.sbl_program.specs.ProgramOf.{commands_of}
 use Rattle.sbl_program.specs.Program as programs
-use Rattle.sbl_ast.specs.Tree.{Command, Rows, Others, Starter, Groups, bracket, simple_, literal_, name_, non_, prefixed, counted, move_, named, splice_, setlimit_, assign_, compare_, compare_values_, among_, no_rows, row, no_others, joined, no_starter, starter, bare, group}
+use Rattle.sbl_ast.specs.Tree.{Command, Rows, Others, Starter, Groups, bracket, simple_, prefixed, counted, setlimit_, among_, no_rows, row, no_others, joined, no_starter, starter, bare, group}
 
 module _ (ns : Names) where
   abbrev mutual
@@ -28,16 +28,7 @@ module _ (ns : Names) where
     founds m (counted x e c) k rest = founds m c k rest
     founds m (setlimit_ b c) k rest = founds m b k (founds m c (number_after b k) rest)
     founds m (among_ s gs) k rest = found_as ns (among_at m k gs) ∷ founds_starter m s (suc k) (founds_groups m gs (number_after_starter s (suc k)) rest)
-    founds m (literal_ q) k rest = rest
-    founds m (name_ n) k rest = rest
-    founds m (non_ b n) k rest = rest
-    founds m (move_ x e) k rest = rest
-    founds m (named x n) k rest = rest
-    founds m (splice_ x a) k rest = rest
-    founds m (assign_ n o e) k rest = rest
-    founds m (compare_ n o e) k rest = rest
-    founds m (compare_values_ e o f) k rest = rest
-    founds m (simple_ s) k rest = rest
+    founds m _ k rest = rest
 
     pub founds_rows : Mode → Rows → ℕ → List AmongStrings → List AmongStrings
     founds_rows m no_rows k rest = rest
@@ -66,16 +57,7 @@ module _ (ns : Names) where
     longer (among_ s gs) m k b rest l =
         let h = longer_starter s m (suc k) b _ (longer_groups gs m (number_after_starter s (suc k)) b rest l) in
         omega (arith, h)
-    longer (literal_ q) m k b rest l = l
-    longer (name_ n) m k b rest l = l
-    longer (non_ x n) m k b rest l = l
-    longer (move_ x e) m k b rest l = l
-    longer (named x n) m k b rest l = l
-    longer (splice_ x a) m k b rest l = l
-    longer (assign_ n o e) m k b rest l = l
-    longer (compare_ n o e) m k b rest l = l
-    longer (compare_values_ e o f) m k b rest l = l
-    longer (simple_ s) m k b rest l = l
+    longer _ m k b rest l = l
 
     longer_rows : (rs : Rows) (m : Mode) (k b : ℕ) (rest : List AmongStrings) → b ≤ length rest → b ≤ length (founds_rows m rs k rest)
     longer_rows no_rows m k b rest l = l
@@ -123,16 +105,7 @@ module _ (ns : Names) where
     head_is (setlimit_ c d) m k b rest n l h = head_is c m k b _ _ (longer d m (number_after c k) b rest l) (head_is d m (number_after c k) b rest n l h)
     head_is (among_ s gs) m k b rest n l h =
         one_ahead b (found_as ns (among_at m k gs)) _ (longer_starter s m (suc k) b _ (longer_groups gs m (number_after_starter s (suc k)) b rest l))
-    head_is (literal_ q) m k b rest n l h = h
-    head_is (name_ x) m k b rest n l h = h
-    head_is (non_ x y) m k b rest n l h = h
-    head_is (move_ x e) m k b rest n l h = h
-    head_is (named x y) m k b rest n l h = h
-    head_is (splice_ x a) m k b rest n l h = h
-    head_is (assign_ x o e) m k b rest n l h = h
-    head_is (compare_ x o e) m k b rest n l h = h
-    head_is (compare_values_ e o f) m k b rest n l h = h
-    head_is (simple_ s) m k b rest n l h = h
+    head_is _ m k b rest n l h = h
 
     head_rows : (rs : Rows) (m : Mode) (k b : ℕ) (rest : List AmongStrings) (n : Option Among) → b ≤ length rest → ahead_in b rest ≡ option_map (found_as ns) n → ahead_in b (founds_rows m rs k rest) ≡ option_map (found_as ns) (first_rows m rs k n)
     head_rows no_rows m k b rest n l h = h
@@ -150,14 +123,7 @@ module _ (ns : Names) where
 
   past_simple_coming : (s : Simple) (p : Position) → (past_simple s p).coming ≡ p.coming
   past_simple_coming simples.Substring p = refl
-  past_simple_coming simples.LeftBracket p = refl
-  past_simple_coming simples.RightBracket p = refl
-  past_simple_coming simples.Next p = refl
-  past_simple_coming simples.ToLimit p = refl
-  past_simple_coming simples.AtLimit p = refl
-  past_simple_coming simples.Delete p = refl
-  past_simple_coming simples.True p = refl
-  past_simple_coming simples.False p = refl
+  past_simple_coming _ p = refl
 
   mutual
     pub coming_is : (t : Command) (m : Mode) (k : ℕ) (p : Position) (rest : List AmongStrings) → p.coming ≡ founds m t k rest → (past t p).coming ≡ rest
@@ -168,15 +134,7 @@ module _ (ns : Names) where
     coming_is (setlimit_ b c) m k p rest e = coming_is c m (number_after b k) (past b p) rest (coming_is b m k p (founds m c (number_after b k) rest) e)
     coming_is (among_ s gs) m k p rest e =
         coming_groups gs m (number_after_starter s (suc k)) (past_starter s (inside p)) rest (coming_starter s m (suc k) (inside p) _ (ap (drop 1) e))
-    coming_is (literal_ q) m k p rest h = h
-    coming_is (name_ n) m k p rest h = h
-    coming_is (non_ b n) m k p rest h = h
-    coming_is (move_ x e) m k p rest h = h
-    coming_is (named x n) m k p rest h = h
-    coming_is (splice_ x a) m k p rest h = h
-    coming_is (assign_ n o e) m k p rest h = h
-    coming_is (compare_ n o e) m k p rest h = h
-    coming_is (compare_values_ e o f) m k p rest h = h
+    coming_is _ m k p rest h = h
 
     coming_rows : (rs : Rows) (m : Mode) (k : ℕ) (p : Position) (rest : List AmongStrings) → p.coming ≡ founds_rows m rs k rest → (past_rows rs p).coming ≡ rest
     coming_rows no_rows m k p rest e = e
@@ -199,14 +157,7 @@ module _ (ns : Names) where
 
   past_simple_waits : (s : Simple) (p : Position) → (past_simple s p).waits ≡ waits (simple_ s) p.waits
   past_simple_waits simples.Substring p = refl
-  past_simple_waits simples.LeftBracket p = refl
-  past_simple_waits simples.RightBracket p = refl
-  past_simple_waits simples.Next p = refl
-  past_simple_waits simples.ToLimit p = refl
-  past_simple_waits simples.AtLimit p = refl
-  past_simple_waits simples.Delete p = refl
-  past_simple_waits simples.True p = refl
-  past_simple_waits simples.False p = refl
+  past_simple_waits _ p = refl
 
   mutual
     waits_is : (t : Command) (p : Position) → (past t p).waits ≡ waits t p.waits
@@ -215,16 +166,7 @@ module _ (ns : Names) where
     waits_is (prefixed x c) p = waits_is c p
     waits_is (counted x n c) p = waits_is c p
     waits_is (setlimit_ b c) p = waits_is c (past b p) ∙ ap (waits c) (waits_is b p)
-    waits_is (among_ s gs) p = refl
-    waits_is (literal_ q) p = refl
-    waits_is (name_ n) p = refl
-    waits_is (non_ b n) p = refl
-    waits_is (move_ x e) p = refl
-    waits_is (named x n) p = refl
-    waits_is (splice_ x a) p = refl
-    waits_is (assign_ n o e) p = refl
-    waits_is (compare_ n o e) p = refl
-    waits_is (compare_values_ e o f) p = refl
+    waits_is _ p = refl
 
     waits_rows_is : (rs : Rows) (p : Position) → (past_rows rs p).waits ≡ waits_rows rs p.waits
     waits_rows_is no_rows p = refl
@@ -238,14 +180,7 @@ module _ (ns : Names) where
 
   past_simple_after : (s : Simple) (p : Position) → (past_simple s p).following ≡ p.following
   past_simple_after simples.Substring p = refl
-  past_simple_after simples.LeftBracket p = refl
-  past_simple_after simples.RightBracket p = refl
-  past_simple_after simples.Next p = refl
-  past_simple_after simples.ToLimit p = refl
-  past_simple_after simples.AtLimit p = refl
-  past_simple_after simples.Delete p = refl
-  past_simple_after simples.True p = refl
-  past_simple_after simples.False p = refl
+  past_simple_after _ p = refl
 
   mutual
     after_is : (t : Command) (p : Position) → (past t p).following ≡ p.following
@@ -255,15 +190,7 @@ module _ (ns : Names) where
     after_is (counted x n c) p = after_is c p
     after_is (setlimit_ b c) p = after_is c (past b p) ∙ after_is b p
     after_is (among_ s gs) p = after_groups_is gs (past_starter s (inside p)) ∙ after_starter_is s (inside p)
-    after_is (literal_ q) p = refl
-    after_is (name_ n) p = refl
-    after_is (non_ b n) p = refl
-    after_is (move_ x e) p = refl
-    after_is (named x n) p = refl
-    after_is (splice_ x a) p = refl
-    after_is (assign_ n o e) p = refl
-    after_is (compare_ n o e) p = refl
-    after_is (compare_values_ e o f) p = refl
+    after_is _ p = refl
 
     after_rows_is : (rs : Rows) (p : Position) → (past_rows rs p).following ≡ p.following
     after_rows_is no_rows p = refl
@@ -295,14 +222,7 @@ module _ (ns : Names) where
 
   simple_is : (s : Simple) (p : Position) (n : Option Among) → ahead_in p.following p.coming ≡ option_map (found_as ns) n → simple s p ≡ simple_by ns s n
   simple_is simples.Substring p n e = searched_if (nat_lt p.following (length p.coming)) p n e
-  simple_is simples.LeftBracket p n e = refl
-  simple_is simples.RightBracket p n e = refl
-  simple_is simples.Next p n e = refl
-  simple_is simples.ToLimit p n e = refl
-  simple_is simples.AtLimit p n e = refl
-  simple_is simples.Delete p n e = refl
-  simple_is simples.True p n e = refl
-  simple_is simples.False p n e = refl
+  simple_is _ p n e = refl
 
   first_is : (w : Bool) (p : Position) (a : Among) (xs : List programs.Node) → next_of p.coming ≡ found_as ns a → commands_of (if w then [] else search_next p ∷ xs) ≡ search_then ns w a (commands_of xs)
   first_is true p a xs e = refl
@@ -337,30 +257,19 @@ module _ (ns : Names) where
     next = ap (λ r. ahead_in (length r) rest) h ∙ none_ahead rest;
   }
 
+  -- the same for another rest
+  along : (p : Position) (xs rest more : List AmongStrings) (w : Bool) (n o : Option Among) → At p xs more w o → p.following ≤ length rest → ahead_in p.following rest ≡ option_map (found_as ns) n → At p xs rest w n
+  along p xs rest more w n o a few next = record { coming = a.coming; waiting = a.waiting; few = few; next = next }
+
   -- with less of the rest
   nearer : (t : Command) (p : Position) (m : Mode) (k : ℕ) (rest : List AmongStrings) (w : Bool) (n : Option Among) (xs : List AmongStrings) → At p xs rest w n → At p xs (founds m t k rest) w (first m t k n)
-  nearer t p m k rest w n xs a = record {
-    coming = a.coming;
-    waiting = a.waiting;
-    few = longer t m k p.following rest a.few;
-    next = head_is t m k p.following rest n a.few a.next;
-  }
+  nearer t p m k rest w n xs a = along p xs rest _ w n _ a (longer t m k p.following rest a.few) (head_is t m k p.following rest n a.few a.next)
 
   pub nearer_others : (os : Others) (p : Position) (m : Mode) (k : ℕ) (rest : List AmongStrings) (w : Bool) (n : Option Among) (xs : List AmongStrings) → At p xs rest w n → At p xs (founds_others m os k rest) w (first_others m os k n)
-  nearer_others os p m k rest w n xs a = record {
-    coming = a.coming;
-    waiting = a.waiting;
-    few = longer_others os m k p.following rest a.few;
-    next = head_others os m k p.following rest n a.few a.next;
-  }
+  nearer_others os p m k rest w n xs a = along p xs rest _ w n _ a (longer_others os m k p.following rest a.few) (head_others os m k p.following rest n a.few a.next)
 
   nearer_rows : (rs : Rows) (p : Position) (m : Mode) (k : ℕ) (rest : List AmongStrings) (w : Bool) (n : Option Among) (xs : List AmongStrings) → At p xs rest w n → At p xs (founds_rows m rs k rest) w (first_rows m rs k n)
-  nearer_rows rs p m k rest w n xs a = record {
-    coming = a.coming;
-    waiting = a.waiting;
-    few = longer_rows rs m k p.following rest a.few;
-    next = head_rows rs m k p.following rest n a.few a.next;
-  }
+  nearer_rows rs p m k rest w n xs a = along p xs rest _ w n _ a (longer_rows rs m k p.following rest a.few) (head_rows rs m k p.following rest n a.few a.next)
 
   -- after a command
   pub further : (t : Command) (p : Position) (m : Mode) (k : ℕ) (xs rest : List AmongStrings) (w : Bool) (n : Option Among) → At p (founds m t k xs) rest w n → At (past t p) xs rest (waits t w) n
@@ -400,15 +309,7 @@ module _ (ns : Names) where
         ∙ first_is w p (among_at m k gs) (numbered_starter ns s (inside p)) (ap next_of e)
         ∙ ap (search_then ns w (among_at m k gs)) (starter_is s m (suc k) (inside p) _ inner))
         (groups_is gs m (number_after_starter s (suc k)) (past_starter s (inside p)) rest begun')
-    made_is (literal_ q) m k w n p rest a = refl
-    made_is (name_ x) m k w n p rest a = refl
-    made_is (non_ b x) m k w n p rest a = refl
-    made_is (move_ x e) m k w n p rest a = refl
-    made_is (named x y) m k w n p rest a = refl
-    made_is (splice_ x y) m k w n p rest a = refl
-    made_is (assign_ x o e) m k w n p rest a = refl
-    made_is (compare_ x o e) m k w n p rest a = refl
-    made_is (compare_values_ e o f) m k w n p rest a = refl
+    made_is _ m k w n p rest a = refl
 
     rows_is : (rs : Rows) (m : Mode) (k : ℕ) (w : Bool) (n : Option Among) (p : Position) (rest : List AmongStrings) → At p (founds_rows m rs k rest) rest w n → commands_of (numbered_rows ns rs p) ≡ made_rows ns m k w n rs
     rows_is no_rows m k w n p rest a = refl

@@ -1,5 +1,5 @@
 -- The next value of a loop over a part of a tree. A loop has its list as `seen`.
-use Rattle.std.proofs.Common.{◌≡◌, ◌∙◌, ◌∷◌, ◌++◌, [], ◌+◌, ◌<◌, ℕ, List, append_assoc, sym, ap, drop, get_or, length, map}
+use Rattle.std.proofs.Common.{◌≡◌, ◌∙◌, ◌∷◌, ◌++◌, [], ◌+◌, ◌<◌, ℕ, List, Result, Ok, Err, IfOk, append_assoc, sym, ap, drop, get_or, length, map}
 use Rattle.std.proofs.lemmas.List.{drop_more, map_push}
 use Rattle.sbl_ast.specs.Tree as trees
 use Rattle.sbl_ast.specs.View.{GroupView, factor_step, view_command, view_entry, view_row}
@@ -44,6 +44,20 @@ scales_at ss seen i s same lt is =
     ap view_scales (at_rest ss seen i s same lt is)
     ∙ ap (λ (v : NextFactorView). trees.scale v.0 v.1 (view_scales (drop (i + 1) ss)))
     (fold_out-NextFactor trees.Factor trees.Expression NextFactorView NextProductView trees.Product factor_step expression_step next_factor_step next_product_step product_step s)
+
+-- the turn of a loop that walks over rows in a state, as its invariant has it; then the same over joined commands and over groups
+pub next_row : {S R : Type 0} (walk : trees.Rows → S → R) (rs seen : List RowOfCommands) (i : ℕ) (r : RowOfCommands) (new made at : S) (end : R) → seen ≡ rs → i < length seen → r ≡ get_or seen i r
+    → new ≡ made → walk (view_rows (drop (i + 1) rs)) made ≡ walk (trees.row (view_row r).0 (view_row r).1 (view_rows (drop (i + 1) rs))) at → walk (view_rows (drop i rs)) at ≡ end → walk (view_rows (drop (i + 1) rs)) new ≡ end
+next_row walk rs seen i r new made at end same lt is turn step so = ap (walk (view_rows (drop (i + 1) rs))) turn ∙ step ∙ ap (λ (x : trees.Rows). walk x at) (sym (rows_at rs seen i r same lt is)) ∙ so
+
+pub next_joined : {S R : Type 0} (walk : trees.Others → S → R) (os seen : List NextCommand) (i : ℕ) (o : NextCommand) (new made at : S) (end : R) → seen ≡ os → i < length seen → o ≡ get_or seen i o
+    → new ≡ made → walk (view_others (drop (i + 1) os)) made ≡ walk (trees.joined o.joiner (view_command o.command) (view_others (drop (i + 1) os))) at → walk (view_others (drop i os)) at ≡ end → walk (view_others (drop (i + 1) os)) new ≡ end
+next_joined walk os seen i o new made at end same lt is turn step so = ap (walk (view_others (drop (i + 1) os))) turn ∙ step ∙ ap (λ (x : trees.Others). walk x at) (sym (others_at os seen i o same lt is)) ∙ so
+
+-- what an `Ok` is made of equals what its value equals
+pub ok_equal : {X E Y : Type 0} (r : Result X E) (f : X → Y) (y z : Y) → IfOk r (λ x. f x ≡ y) → y ≡ z → IfOk r (λ x. f x ≡ z)
+ok_equal (Ok x) f y z h e = h ∙ e
+ok_equal (Err g) f y z h e = h
 
 -- what one value more adds to those that were made
 pub one_more : {X Y : Type 0} (f : X → Y) (old new : List X) (x : X) (y : Y) (rest : List Y) → new ≡ old ++ x ∷ [] → f x ≡ y → map f new ++ rest ≡ map f old ++ y ∷ rest

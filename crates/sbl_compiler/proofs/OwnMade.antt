@@ -11,7 +11,7 @@ use Rattle.sbl_semantics.specs.Regions.{among_at, number_after, number_after_row
 use Rattle.sbl_semantics.specs.Landmarks.{mode_under}
 use Rattle.sbl_compiler.specs.NumberedItems.{Position, end_waiting, past, past_body, past_plain, begin_body, routine_of, with_routine, routines_after}
 use Rattle.sbl_program.specs.Program as programs
-use Rattle.sbl_ast.specs.Tree.{Command, Rows, Others, Starter, Groups, Plain, declaration, escapes, macro, routine, grouping, bracket, simple_, literal_, name_, non_, prefixed, counted, move_, named, splice_, setlimit_, assign_, compare_, compare_values_, among_, no_rows, row, no_others, joined, no_starter, starter, bare, group}
+use Rattle.sbl_ast.specs.Tree.{Command, Rows, Others, Starter, Groups, Plain, routine, bracket, prefixed, counted, setlimit_, among_, no_rows, row, no_others, joined, no_starter, starter, bare, group}
 use Rattle.sbl_compiler.proofs.Coming.{founds, founds_rows, founds_others, founds_starter, founds_groups, coming_is, coming_others, begun_at, nearer_others, further, made_is, others_is}
 
 module _ (ns : Names) where
@@ -35,16 +35,7 @@ module _ (ns : Names) where
     len_is (setlimit_ b c) m a k xs l = len_is c m a (number_after b k) (found_command ns a m b xs) (len_is b m a k xs l)
     len_is (among_ s gs) m a k xs l =
         len_groups gs m a (number_after_starter s (suc k)) _ (len_starter s m a (suc k) (xs ++ (found_of ns a m gs xs ∷ [])) (last_len xs (found_of ns a m gs xs) ∙ more a k (length xs) l))
-    len_is (literal_ q) m a k xs l = l
-    len_is (name_ n) m a k xs l = l
-    len_is (non_ b n) m a k xs l = l
-    len_is (move_ y e) m a k xs l = l
-    len_is (named x n) m a k xs l = l
-    len_is (splice_ x b) m a k xs l = l
-    len_is (assign_ n o e) m a k xs l = l
-    len_is (compare_ n o e) m a k xs l = l
-    len_is (compare_values_ e o f) m a k xs l = l
-    len_is (simple_ s) m a k xs l = l
+    len_is _ m a k xs l = l
 
     len_rows : (rs : Rows) (m : Mode) (a k : ℕ) (xs : List AmongStrings) → length xs ≡ a + k → length (found_rows ns a m rs xs) ≡ a + number_after_rows rs k
     len_rows no_rows m a k xs l = l
@@ -83,16 +74,7 @@ module _ (ns : Names) where
         ∙ found_starter_is s m a (suc k) ys _ l1
         ∙ append_assoc xs (f ∷ []) inner
         ∙ ap (λ g. xs ++ (g ∷ inner)) (number_is m a k gs xs l)
-    found_is (literal_ q) m a k xs rest l = refl
-    found_is (name_ n) m a k xs rest l = refl
-    found_is (non_ b n) m a k xs rest l = refl
-    found_is (move_ y e) m a k xs rest l = refl
-    found_is (named x n) m a k xs rest l = refl
-    found_is (splice_ x b) m a k xs rest l = refl
-    found_is (assign_ n o e) m a k xs rest l = refl
-    found_is (compare_ n o e) m a k xs rest l = refl
-    found_is (compare_values_ e o f) m a k xs rest l = refl
-    found_is (simple_ s) m a k xs rest l = refl
+    found_is _ m a k xs rest l = refl
 
     found_rows_is : (rs : Rows) (m : Mode) (a k : ℕ) (xs rest : List AmongStrings) → length xs ≡ a + k → found_rows ns a m rs xs ++ rest ≡ xs ++ founds_rows ns m rs k rest
     found_rows_is no_rows m a k xs rest l = refl
@@ -137,16 +119,7 @@ module _ (ns : Names) where
     count_is (counted x e c) m k rest = count_is c m k rest
     count_is (setlimit_ b c) m k rest = count_is b m k _ ∙ count_is c m (number_after b k) rest
     count_is (among_ s gs) m k rest = one_in_prefix _ k _ (count_starter s m (suc k) _ ∙ count_groups gs m (number_after_starter s (suc k)) rest)
-    count_is (literal_ q) m k rest = refl
-    count_is (name_ n) m k rest = refl
-    count_is (non_ b n) m k rest = refl
-    count_is (move_ x e) m k rest = refl
-    count_is (named x n) m k rest = refl
-    count_is (splice_ x a) m k rest = refl
-    count_is (assign_ n o e) m k rest = refl
-    count_is (compare_ n o e) m k rest = refl
-    count_is (compare_values_ e o f) m k rest = refl
-    count_is (simple_ s) m k rest = refl
+    count_is _ m k rest = refl
 
     count_rows : (rs : Rows) (m : Mode) (k : ℕ) (rest : List AmongStrings) → length (founds_rows ns m rs k rest) + k ≡ length rest + number_after_rows rs k
     count_rows no_rows m k rest = refl
@@ -179,10 +152,7 @@ module _ (ns : Names) where
 
   abbrev plain_founds : Mode → Plain → List AmongStrings → List AmongStrings
   plain_founds m (routine n c os) rest = body_founds m c os rest
-  plain_founds m (declaration k xs) rest = rest
-  plain_founds m (escapes a b) rest = rest
-  plain_founds m (macro n b q) rest = rest
-  plain_founds m (grouping n a ts) rest = rest
+  plain_founds m _ rest = rest
 
   abbrev all_founds : List ItemInMode → List AmongStrings
   all_founds [] = []
@@ -196,10 +166,7 @@ module _ (ns : Names) where
       let a = length sofar in
       let l = none_more (length sofar) in
       found_others_is os m a (number_after c 0) (found_command ns a m c sofar) rest (len_is c m a 0 sofar l) ∙ found_is c m a 0 sofar _ l
-  plain_is m (declaration k xs) sofar rest = refl
-  plain_is m (escapes a b) sofar rest = refl
-  plain_is m (macro n b q) sofar rest = refl
-  plain_is m (grouping n a ts) sofar rest = refl
+  plain_is m _ sofar rest = refl
 
   all_is : (xs : List ItemInMode) (sofar : List AmongStrings) → found_after ns xs sofar ≡ sofar ++ all_founds xs
   all_is [] sofar = sym (append-nil sofar)
@@ -207,18 +174,12 @@ module _ (ns : Names) where
 
   after_plain : (m : Mode) (x : Plain) (p : Position) (rest : List AmongStrings) → p.coming ≡ plain_founds m x rest → (past_plain x p).coming ≡ rest
   after_plain m (routine n c os) p rest e = after_body m c os p rest e
-  after_plain m (declaration k xs) p rest e = e
-  after_plain m (escapes a b) p rest e = e
-  after_plain m (macro n b q) p rest e = e
-  after_plain m (grouping n a ts) p rest e = e
+  after_plain m _ p rest e = e
 
   with_is : (m : Mode) (x : Plain) (p : Position) (rest : List AmongStrings) (sofar more : List programs.Routine) → p.coming ≡ plain_founds m x rest → with_routine ns x p sofar ++ more ≡ sofar ++ routine_in ns m x more
   with_is m (routine n c os) p rest sofar more e =
       append_assoc sofar (routine_of ns c os p ∷ []) more ∙ ap (λ r. sofar ++ (r ∷ more)) (routine_is m c os p rest e)
-  with_is m (declaration k xs) p rest sofar more e = refl
-  with_is m (escapes a b) p rest sofar more e = refl
-  with_is m (macro n b q) p rest sofar more e = refl
-  with_is m (grouping n a ts) p rest sofar more e = refl
+  with_is m _ p rest sofar more e = refl
 
   routines_are : (xs : List ItemInMode) (p : Position) (sofar : List programs.Routine) → p.coming ≡ all_founds xs → routines_after ns xs p sofar ≡ sofar ++ routines_in ns xs
   routines_are [] p sofar e = sym (append-nil sofar)

@@ -5,8 +5,9 @@ use Rattle.std.specs.Str.{bytes_eq}
 use Rattle.std.proofs.lemmas.Bool.{lt-ltb, ltb-true, true≢false}
 use Rattle.sbl_ast.specs.Order.{ItemInMode}
 use Rattle.sbl_ast.specs.declared.tree.Additive.TheVariants.{Plus, Minus}
+use Rattle.sbl_ast.specs.declared.tree.DeclarationKind.{DeclarationKind}
 use Rattle.sbl_ast.specs.declared.tree.DeclarationKind.TheVariants as kinds
-use Rattle.sbl_ast.specs.Tree.{Argument, written_out, by_name, Term, term, Plain, declaration, escapes, macro, routine, grouping}
+use Rattle.sbl_ast.specs.Tree.{Argument, written_out, by_name, Term, term, Plain, declaration, routine, grouping}
 use Rattle.sbl_compiler.specs.Ahead.{routine_made, routine_in, routines_in}
 use Rattle.sbl_semantics.specs.Items.{is_member, place_of, names_by, known_in, Grouping, char_class_of, term_has, terms_have, and_grouping, classes_after, Body, body_or, body_named}
 use Rattle.sbl_compiler.specs.NumberedNames.{Names, naming, names_after, number_from, number_of, is_one_of}
@@ -17,87 +18,43 @@ use Rattle.sbl_ast.specs.declared.mode.Mode.{Mode}
 
 -- ---- names
 
-strings_more : (x : Plain) (all : Names) (more : List (List ℕ)) → (naming x all).strings ++ more ≡ all.strings ++ (names_by kinds.Strings x ++ more)
-strings_more (declaration kinds.Strings ns) all more = append_assoc all.strings ns more
-strings_more (declaration kinds.Integers ns) all more = refl
-strings_more (declaration kinds.Booleans ns) all more = refl
-strings_more (declaration kinds.Routines ns) all more = refl
-strings_more (declaration kinds.Externals ns) all more = refl
-strings_more (declaration kinds.Groupings ns) all more = refl
-strings_more (escapes a b) all more = refl
-strings_more (macro n b q) all more = refl
-strings_more (routine n c os) all more = refl
-strings_more (grouping n a ts) all more = refl
+-- the names of a kind
+abbrev names_in : DeclarationKind → Names → List (List ℕ)
+names_in kinds.Strings all = all.strings
+names_in kinds.Integers all = all.integers
+names_in kinds.Booleans all = all.booleans
+names_in kinds.Routines all = all.routines
+names_in kinds.Groupings all = all.groupings
+names_in kinds.Externals all = []
+
+one_more : (k : DeclarationKind) (x : Plain) (all : Names) (more : List (List ℕ)) → names_in k (naming x all) ++ more ≡ names_in k all ++ (names_by k x ++ more)
+one_more kinds.Strings (declaration kinds.Strings ns) all more = append_assoc all.strings ns more
+one_more kinds.Integers (declaration kinds.Integers ns) all more = append_assoc all.integers ns more
+one_more kinds.Booleans (declaration kinds.Booleans ns) all more = append_assoc all.booleans ns more
+one_more kinds.Routines (declaration kinds.Strings ns) all more = refl
+one_more kinds.Routines (routine n c os) all more = append_assoc all.routines (n ∷ []) more
+one_more kinds.Groupings (declaration kinds.Strings ns) all more = refl
+one_more kinds.Groupings (grouping n a ts) all more = append_assoc all.groupings (n ∷ []) more
+one_more _ _ all more = refl
+
+names_are : (k : DeclarationKind) (xs : List ItemInMode) (all : Names) → names_in k (names_after xs all) ≡ names_in k all ++ known_in xs k
+names_are k [] all = sym (append-nil (names_in k all))
+names_are k (x ∷ xs) all = names_are k xs (naming x.plain all) ∙ one_more k x.plain all (known_in xs k)
 
 pub strings_are : (xs : List ItemInMode) (all : Names) → (names_after xs all).strings ≡ all.strings ++ known_in xs kinds.Strings
-strings_are [] all = sym (append-nil all.strings)
-strings_are (x ∷ xs) all = strings_are xs (naming x.plain all) ∙ strings_more x.plain all (known_in xs kinds.Strings)
-
-integers_more : (x : Plain) (all : Names) (more : List (List ℕ)) → (naming x all).integers ++ more ≡ all.integers ++ (names_by kinds.Integers x ++ more)
-integers_more (declaration kinds.Strings ns) all more = refl
-integers_more (declaration kinds.Integers ns) all more = append_assoc all.integers ns more
-integers_more (declaration kinds.Booleans ns) all more = refl
-integers_more (declaration kinds.Routines ns) all more = refl
-integers_more (declaration kinds.Externals ns) all more = refl
-integers_more (declaration kinds.Groupings ns) all more = refl
-integers_more (escapes a b) all more = refl
-integers_more (macro n b q) all more = refl
-integers_more (routine n c os) all more = refl
-integers_more (grouping n a ts) all more = refl
+strings_are = names_are kinds.Strings
 
 pub integers_are : (xs : List ItemInMode) (all : Names) → (names_after xs all).integers ≡ all.integers ++ known_in xs kinds.Integers
-integers_are [] all = sym (append-nil all.integers)
-integers_are (x ∷ xs) all = integers_are xs (naming x.plain all) ∙ integers_more x.plain all (known_in xs kinds.Integers)
-
-booleans_more : (x : Plain) (all : Names) (more : List (List ℕ)) → (naming x all).booleans ++ more ≡ all.booleans ++ (names_by kinds.Booleans x ++ more)
-booleans_more (declaration kinds.Strings ns) all more = refl
-booleans_more (declaration kinds.Integers ns) all more = refl
-booleans_more (declaration kinds.Booleans ns) all more = append_assoc all.booleans ns more
-booleans_more (declaration kinds.Routines ns) all more = refl
-booleans_more (declaration kinds.Externals ns) all more = refl
-booleans_more (declaration kinds.Groupings ns) all more = refl
-booleans_more (escapes a b) all more = refl
-booleans_more (macro n b q) all more = refl
-booleans_more (routine n c os) all more = refl
-booleans_more (grouping n a ts) all more = refl
+integers_are = names_are kinds.Integers
 
 pub booleans_are : (xs : List ItemInMode) (all : Names) → (names_after xs all).booleans ≡ all.booleans ++ known_in xs kinds.Booleans
-booleans_are [] all = sym (append-nil all.booleans)
-booleans_are (x ∷ xs) all = booleans_are xs (naming x.plain all) ∙ booleans_more x.plain all (known_in xs kinds.Booleans)
-
-groupings_more : (x : Plain) (all : Names) (more : List (List ℕ)) → (naming x all).groupings ++ more ≡ all.groupings ++ (names_by kinds.Groupings x ++ more)
-groupings_more (declaration kinds.Strings ns) all more = refl
-groupings_more (declaration kinds.Integers ns) all more = refl
-groupings_more (declaration kinds.Booleans ns) all more = refl
-groupings_more (declaration kinds.Routines ns) all more = refl
-groupings_more (declaration kinds.Externals ns) all more = refl
-groupings_more (declaration kinds.Groupings ns) all more = refl
-groupings_more (escapes a b) all more = refl
-groupings_more (macro n b q) all more = refl
-groupings_more (routine n c os) all more = refl
-groupings_more (grouping n a ts) all more = append_assoc all.groupings (n ∷ []) more
+booleans_are = names_are kinds.Booleans
 
 pub groupings_are : (xs : List ItemInMode) (all : Names) → (names_after xs all).groupings ≡ all.groupings ++ known_in xs kinds.Groupings
-groupings_are [] all = sym (append-nil all.groupings)
-groupings_are (x ∷ xs) all = groupings_are xs (naming x.plain all) ∙ groupings_more x.plain all (known_in xs kinds.Groupings)
-
-routines_more : (x : Plain) (all : Names) (more : List (List ℕ)) → (naming x all).routines ++ more ≡ all.routines ++ (names_by kinds.Routines x ++ more)
-routines_more (declaration kinds.Strings ns) all more = refl
-routines_more (declaration kinds.Integers ns) all more = refl
-routines_more (declaration kinds.Booleans ns) all more = refl
-routines_more (declaration kinds.Routines ns) all more = refl
-routines_more (declaration kinds.Externals ns) all more = refl
-routines_more (declaration kinds.Groupings ns) all more = refl
-routines_more (escapes a b) all more = refl
-routines_more (macro n b q) all more = refl
-routines_more (routine n c os) all more = append_assoc all.routines (n ∷ []) more
-routines_more (grouping n a ts) all more = refl
+groupings_are = names_are kinds.Groupings
 
 pub routines_are : (xs : List ItemInMode) (all : Names) → (names_after xs all).routines ≡ all.routines ++ known_in xs kinds.Routines
-routines_are [] all = sym (append-nil all.routines)
-routines_are (x ∷ xs) all = routines_are xs (naming x.plain all) ∙ routines_more x.plain all (known_in xs kinds.Routines)
-
--- ---- the number of a name is its place
+routines_are = names_are kinds.Routines
 
 number_step : (b : Bool) (i r p : ℕ) → r ≡ (i + 1) + p → (if b then i else r) ≡ i + (if b then 0 else suc p)
 number_step true i r p h = omega arith
@@ -223,10 +180,7 @@ module _ (ns : Names) where
             (λ c. terms_are ks gs (n ∷ rest) e h ts first _ c (alone_is (term_class ns ks a c) ∙ term_is ks gs (n ∷ rest) e h a c));
         names = e ∙ sym (names_more gs g rest);
       }
-  far_more (declaration k xs) ks gs rest f = f
-  far_more (escapes a b) ks gs rest f = f
-  far_more (macro n b q) ks gs rest f = f
-  far_more (routine n c os) ks gs rest f = f
+  far_more _ ks gs rest f = f
 
   pub far_all : (xs : List ItemInMode) (ks : List (ℕ → Bool)) (gs : List Grouping) → Far ks gs (known_in xs kinds.Groupings) → Far (numbered_classes ns xs ks) (classes_after xs gs) []
   far_all [] ks gs f = f
@@ -249,10 +203,7 @@ module _ (ns : Names) where
 
   body_more : (m : Mode) (x : Plain) (n : List ℕ) (rs : List programs.Routine) (rest : List (List ℕ)) (o : Option Body) → slice_get rs (place_of rest n) ≡ option_map as_made o → slice_get (routine_in ns m x rs) (place_of (names_by kinds.Routines x ++ rest) n) ≡ option_map as_made (body_or m x n o)
   body_more m (routine r c os) n rs rest o h = body_step (bytes_eq r n) _ rs (place_of rest n) (record { mode = m; first = c; others = os }) o refl h
-  body_more m (declaration k xs) n rs rest o h = h
-  body_more m (escapes a b) n rs rest o h = h
-  body_more m (macro y b q) n rs rest o h = h
-  body_more m (grouping y a ts) n rs rest o h = h
+  body_more m _ n rs rest o h = h
 
   pub body_at : (xs : List ItemInMode) (n : List ℕ) → slice_get (routines_in ns xs) (place_of (known_in xs kinds.Routines) n) ≡ option_map as_made (body_named xs n)
   body_at [] n = refl

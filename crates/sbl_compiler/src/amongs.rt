@@ -12,15 +12,16 @@ ghost use Rattle.sbl_program.specs.FoundView.{texts};
 ghost use Rattle.sbl_compiler.specs.NumberedView.{AddsGroups, Finds, found_row, view_found, view_names};
 ghost use Rattle.sbl_semantics.specs.Landmarks.{mode_under as spec_mode_after};
 
+use crate::compiler::CompileResult;
 use crate::names::SymbolTable;
 use sbl_ast::{
     Among, Command, Entry, Group, ItemInMode, Mode, NextCommand, Plain, Prefix, RowOfCommands,
 };
 use sbl_program::{AmongStrings, Candidate};
-use std::alloc::{AllocError, Global};
+use std::alloc::Global;
 
 // Returns a copy of a string. Returns `AllocError` if an allocation fails.
-fn copy_string(alloc: Global, string: &[char]) -> Result<Vec<char>, AllocError>
+fn copy_string(alloc: Global, string: &[char]) -> CompileResult<Vec<char>>
     ensures { IfOk result (λ v. v.items ≡ string.now) }
 {
     string.to_vec(alloc)
@@ -35,7 +36,7 @@ fn count_of(groups: &Vec<Group>, bare: &Vec<Entry>) -> usize {
     count
 }
 
-fn add_string(alloc: Global, entry: &Entry, strings: &mut Vec<Vec<char>>) -> Result<(), AllocError>
+fn add_string(alloc: Global, entry: &Entry, strings: &mut Vec<Vec<char>>) -> CompileResult<()>
     ensures { OnOk result (texts strings.new.items ≡ spec.strings_in (view_entry entry.now ∷ []) (texts strings.old.items)) }
 {
     strings.push(copy_string(alloc, &entry.string.value)?)?;
@@ -46,7 +47,7 @@ fn add_strings(
     alloc: Global,
     entries: &Vec<Entry>,
     strings: &mut Vec<Vec<char>>,
-) -> Result<(), AllocError>
+) -> CompileResult<()>
     ensures { OnOk result (texts strings.new.items ≡ spec.strings_in (map view_entry entries.now.items) (texts strings.old.items)) }
 {
     for entry in entries {
@@ -59,7 +60,7 @@ fn strings_of(
     alloc: Global,
     groups: &Vec<Group>,
     bare: &Vec<Entry>,
-) -> Result<Vec<Vec<char>>, AllocError>
+) -> CompileResult<Vec<Vec<char>>>
     ensures { IfOk result (λ v. texts v.items ≡ spec.strings_after (view_groups groups.now.items (map view_entry bare.now.items)) []) }
 {
     let mut strings = Vec::with_capacity(alloc, count_of(groups, bare))?;
@@ -85,7 +86,7 @@ fn add_entry(
     group: usize,
     entry: &Entry,
     entries: &mut Vec<Candidate>,
-) -> Result<(), AllocError>
+) -> CompileResult<()>
     ensures { OnOk result (entries.new.items ≡ spec.entries_in (view_names names.now) group (view_entry entry.now ∷ []) entries.old.items) }
 {
     entries.push(Candidate {
@@ -101,7 +102,7 @@ fn add_entries(
     group: usize,
     more: &Vec<Entry>,
     entries: &mut Vec<Candidate>,
-) -> Result<(), AllocError>
+) -> CompileResult<()>
     ensures { OnOk result (entries.new.items ≡ spec.entries_in (view_names names.now) group (map view_entry more.now.items) entries.old.items) }
 {
     for entry in more {
@@ -114,7 +115,7 @@ fn add_group_entries(
     names: &SymbolTable,
     groups: &Vec<Group>,
     entries: &mut Vec<Candidate>,
-) -> Result<(), AllocError>
+) -> CompileResult<()>
     ensures { OnOk result (AddsGroups (view_names names.now) groups.now.items entries.old.items entries.new.items) }
 {
     for (number, group) in groups.iter().enumerate() {
@@ -129,7 +130,7 @@ fn entries_of(
     names: &SymbolTable,
     groups: &Vec<Group>,
     bare: &Vec<Entry>,
-) -> Result<Vec<Candidate>, AllocError>
+) -> CompileResult<Vec<Candidate>>
     ensures { IfOk result (λ v. v.items ≡ spec.entries_after (view_names names.now) 0 (view_groups groups.now.items (map view_entry bare.now.items)) []) }
 {
     let mut entries = Vec::with_capacity(alloc, count_of(groups, bare))?;
@@ -177,7 +178,7 @@ impl<'a> Finder<'a> {
     }
 
     // Adds an among after the others, before those inside it. Returns `AllocError` if an allocation fails.
-    fn add_among(&self, among: &Among, all: &mut Vec<AmongStrings>) -> Result<(), AllocError>
+    fn add_among(&self, among: &Among, all: &mut Vec<AmongStrings>) -> CompileResult<()>
         ensures { OnOk result (Finds all.old.items all.new.items (λ fs. fs ++ found_of (view_names self.now.names.now) self.now.first self.now.mode (view_among among.now).1 fs ∷ [])) }
     {
         let number = all.len().saturating_sub(self.first);
@@ -194,7 +195,7 @@ impl<'a> Finder<'a> {
 
     // Adds the amongs of a command. Returns `AllocError` if an allocation fails.
     #[cycle(finding)]
-    fn find(&self, command: &Command, all: &mut Vec<AmongStrings>) -> Result<(), AllocError>
+    fn find(&self, command: &Command, all: &mut Vec<AmongStrings>) -> CompileResult<()>
         ensures { OnOk result (Finds all.old.items all.new.items (found_command (view_names self.now.names.now) self.now.first self.now.mode (view_command command.now))) }
     {
         match command {
@@ -211,11 +212,7 @@ impl<'a> Finder<'a> {
     }
 
     #[cycle(finding)]
-    fn find_rows(
-        &self,
-        rows: &Vec<RowOfCommands>,
-        all: &mut Vec<AmongStrings>,
-    ) -> Result<(), AllocError>
+    fn find_rows(&self, rows: &Vec<RowOfCommands>, all: &mut Vec<AmongStrings>) -> CompileResult<()>
         ensures { OnOk result (Finds all.old.items all.new.items (found_rows (view_names self.now.names.now) self.now.first self.now.mode (view_rows rows.now.items))) }
     {
         for row in rows {
@@ -225,7 +222,7 @@ impl<'a> Finder<'a> {
     }
 
     #[cycle(finding)]
-    fn find_row(&self, row: &RowOfCommands, all: &mut Vec<AmongStrings>) -> Result<(), AllocError>
+    fn find_row(&self, row: &RowOfCommands, all: &mut Vec<AmongStrings>) -> CompileResult<()>
         ensures { OnOk result (Finds all.old.items all.new.items (found_row (view_names self.now.names.now) self.now.first self.now.mode (view_row row.now))) }
     {
         self.find(&row.first, all)?;
@@ -237,7 +234,7 @@ impl<'a> Finder<'a> {
         &self,
         others: &Vec<NextCommand>,
         all: &mut Vec<AmongStrings>,
-    ) -> Result<(), AllocError>
+    ) -> CompileResult<()>
         ensures { OnOk result (Finds all.old.items all.new.items (found_others (view_names self.now.names.now) self.now.first self.now.mode (view_others others.now.items))) }
     {
         for joined in others {
@@ -247,7 +244,7 @@ impl<'a> Finder<'a> {
     }
 
     #[cycle(finding)]
-    fn find_among(&self, among: &Among, all: &mut Vec<AmongStrings>) -> Result<(), AllocError>
+    fn find_among(&self, among: &Among, all: &mut Vec<AmongStrings>) -> CompileResult<()>
         ensures { OnOk result (Finds all.old.items all.new.items (found_command (view_names self.now.names.now) self.now.first self.now.mode (among_ (view_among among.now).0 (view_among among.now).1))) }
     {
         self.add_among(among, all)?;
@@ -258,11 +255,7 @@ impl<'a> Finder<'a> {
     }
 
     #[cycle(finding)]
-    fn find_groups(
-        &self,
-        groups: &Vec<Group>,
-        all: &mut Vec<AmongStrings>,
-    ) -> Result<(), AllocError>
+    fn find_groups(&self, groups: &Vec<Group>, all: &mut Vec<AmongStrings>) -> CompileResult<()>
         ensures { OnOk result ((e : List trees.Entry) → Finds all.old.items all.new.items (found_groups (view_names self.now.names.now) self.now.first self.now.mode (view_groups groups.now.items e))) }
     {
         for group in groups {
@@ -278,7 +271,7 @@ fn find_plain(
     names: &SymbolTable,
     item: &ItemInMode,
     all: &mut Vec<AmongStrings>,
-) -> Result<(), AllocError>
+) -> CompileResult<()>
     ensures { OnOk result (Finds all.old.items all.new.items (found_plain (view_names names.now) item.now.mode (view_plain item.now.plain.now))) }
 {
     if let Plain::Routine { name: _, body } = item.plain {
@@ -298,7 +291,7 @@ pub fn amongs_of(
     alloc: Global,
     names: &SymbolTable,
     items: &[ItemInMode],
-) -> Result<Vec<AmongStrings>, AllocError>
+) -> CompileResult<Vec<AmongStrings>>
     ensures { IfOk result (λ v. map view_found v.items ≡ found_after (view_names names.now) (map view_in_mode items.now) []) }
 {
     let mut all = Vec::new(alloc);

@@ -1,29 +1,21 @@
-use Rattle.std.proofs.Common.{◌∙◌, ◌+◌, ap, drop, sym}
+use Rattle.std.proofs.Common.{◌∙◌, ◌+◌, ap, drop, refl, sym}
 use Rattle.sbl_ast.specs.Tree as trees
-use Rattle.sbl_ast.specs.inside.ViewParts.{view_groups, view_others, view_rows}
+use Rattle.sbl_ast.specs.inside.ViewParts.{view_groups, view_rows}
 use Rattle.sbl_ast.specs.declared.tree.Group.{out-Group}
 use Rattle.sbl_compiler.specs.NumberedItems.{past_groups, past_others, past_rows}
 use Rattle.sbl_compiler.specs.NumberedView.{view_place}
-use Rattle.sbl_compiler.proofs.Loops.{groups_at, others_at, rows_at}
+use Rattle.sbl_compiler.proofs.Loops.{groups_at, next_joined, next_row}
 use Rattle.sbl_compiler.proofs.place.+passing.Goals as goal
 
 pub past_rows-loop-row-preserved : goal.past_rows-loop-row-preserved
 past_rows-loop-row-preserved t c =
-    let rows = c.args.rows.now.items in
-    let i = c.loop-row.row-index in
-    let at = view_place c.args.amongs.now.items c.loop-row.following in
-    ap (past_rows (view_rows (drop (i + 1) rows))) c.past_row-following.ensures
-    ∙ ap (λ (rs : trees.Rows). past_rows rs at) (sym (rows_at rows _ i c.row-item.result c.deref-row-items.ensures.value c.loop-row-test.true c.row-item.is))
-    ∙ c.loop-row.invariant
+    next_row past_rows c.args.rows.now.items _ c.loop-row.row-index c.row-item.result _ _ (view_place c.args.amongs.now.items c.loop-row.following) _
+    c.deref-row-items.ensures.value c.loop-row-test.true c.row-item.is c.past_row-following.ensures refl c.loop-row.invariant
 
 pub past_others-loop-joined-preserved : goal.past_others-loop-joined-preserved
 past_others-loop-joined-preserved t c =
-    let others = c.args.others.now.items in
-    let i = c.loop-joined.joined-index in
-    let at = view_place c.args.amongs.now.items c.loop-joined.following in
-    ap (past_others (view_others (drop (i + 1) others))) c.past-following.ensures
-    ∙ ap (λ (os : trees.Others). past_others os at) (sym (others_at others _ i c.joined-item.result c.deref-joined-items.ensures.value c.loop-joined-test.true c.joined-item.is))
-    ∙ c.loop-joined.invariant
+    next_joined past_others c.args.others.now.items _ c.loop-joined.joined-index c.joined-item.result _ _ (view_place c.args.amongs.now.items c.loop-joined.following) _
+    c.deref-joined-items.ensures.value c.loop-joined-test.true c.joined-item.is c.past-following.ensures refl c.loop-joined.invariant
 
 pub past_groups-loop-group-preserved : goal.past_groups-loop-group-preserved
 past_groups-loop-group-preserved t c = λ bare.

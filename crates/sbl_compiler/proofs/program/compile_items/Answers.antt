@@ -8,6 +8,7 @@ use Rattle.sbl_program.specs.ProgramOf.{program_of}
 use Rattle.sbl_semantics.specs.Items.{known_in}
 use Rattle.sbl_compiler.specs.NumberedItems.{numbered_items, plan_in}
 use Rattle.sbl_compiler.specs.declared.program.Compilation.{Compilation}
+use Rattle.sbl_compiler.proofs.Loops.{ok_equal}
 use Rattle.sbl_compiler.proofs.program.compile_items.Goals as goal
 
 pub returns-clause-program : goal.returns-clause-program
@@ -24,17 +25,11 @@ returns-clause-program c =
 pub returns-clause-routines : goal.returns-clause-routines
 returns-clause-routines c =
     let ordered : map view_in_mode c.deref.result.now ≡ in_order (view_items c.args.items.now) = search rules in
-    IfOk-weaker c.compile_in_order-compilation.result
-    (λ (n : Compilation). map string_bytes n.routines.items ≡ known_in (map view_in_mode c.deref.result.now) kinds.Routines)
-    (λ (n : Compilation). map string_bytes n.routines.items ≡ known_in (in_order (view_items c.args.items.now)) kinds.Routines)
-    (λ n p. p ∙ ap (λ (xs : List ItemInMode). known_in xs kinds.Routines) ordered)
-    c.compile_in_order-compilation.ensures.routines
+    ok_equal c.compile_in_order-compilation.result (λ (n : Compilation). map string_bytes n.routines.items) _ _ c.compile_in_order-compilation.ensures.routines
+    (ap (λ (xs : List ItemInMode). known_in xs kinds.Routines) ordered)
 
 pub returns-clause-groupings : goal.returns-clause-groupings
 returns-clause-groupings c =
     let ordered : map view_in_mode c.deref.result.now ≡ in_order (view_items c.args.items.now) = search rules in
-    IfOk-weaker c.compile_in_order-compilation.result
-    (λ (n : Compilation). map string_bytes n.groupings.items ≡ known_in (map view_in_mode c.deref.result.now) kinds.Groupings)
-    (λ (n : Compilation). map string_bytes n.groupings.items ≡ known_in (in_order (view_items c.args.items.now)) kinds.Groupings)
-    (λ n p. p ∙ ap (λ (xs : List ItemInMode). known_in xs kinds.Groupings) ordered)
-    c.compile_in_order-compilation.ensures.groupings
+    ok_equal c.compile_in_order-compilation.result (λ (n : Compilation). map string_bytes n.groupings.items) _ _ c.compile_in_order-compilation.ensures.groupings
+    (ap (λ (xs : List ItemInMode). known_in xs kinds.Groupings) ordered)
