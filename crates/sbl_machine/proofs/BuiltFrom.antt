@@ -9,7 +9,7 @@ use Rattle.std.proofs.lemmas.Slice.Eq.{bytes_eq-Decides}
 use Rattle.sbl_ast.specs.Order.{ItemInMode, in_order}
 use Rattle.sbl_ast.specs.declared.mode.Mode.{Mode}
 use Rattle.sbl_ast.specs.declared.tree.DeclarationKind.TheVariants as kinds
-use Rattle.sbl_ast.specs.Tree.{Argument, written_out, by_name, Term, term, Plain, declaration, escapes, macro, routine, grouping, Item}
+use Rattle.sbl_ast.specs.Tree.{Argument, written_out, by_name, Term, term, Plain, grouping, Item}
 use Rattle.sbl_resolver.specs.Laws.{WellDeclaredPasses}
 use Rattle.sbl_resolver.specs.Occurrences.{occurrences_of}
 use Rattle.sbl_semantics.specs.Items.{known_in, names_by, is_member}
@@ -38,10 +38,7 @@ module _ (chosen : List ℕ → Bool) (none : (n : List ℕ) → chosen n ≡ fa
 module _ (picked : Part' → Bool) (none : (n : List ℕ) → picked (Grouping n) ≡ false) where
   none_at : (x : Plain) → IsClosedAt picked x
   none_at (grouping n a ts) = λ h. absurd (true≢false (sym h ∙ not_built (λ m. picked (Grouping m)) none a ts))
-  none_at (declaration k ns) = tt
-  none_at (escapes a b) = tt
-  none_at (macro n b q) = tt
-  none_at (routine n c os) = tt
+  none_at _ = tt
 
   none_in : (xs : List ItemInMode) → AllByRecursion (λ x. IsClosedAt picked x.plain) xs
   none_in [] = tt
@@ -94,10 +91,7 @@ either_more false r n ns h = h
 
 and_more : (x : Plain) (n : List ℕ) (ns : List (List ℕ)) → is_member ns n ≡ true → is_member (and_built x ns) n ≡ true
 and_more (grouping r a ts) n ns h = either_more (built_on (is_member ns) a ts) r n ns h
-and_more (declaration k xs) n ns h = h
-and_more (escapes a b) n ns h = h
-and_more (macro m b q) n ns h = h
-and_more (routine r c os) n ns h = h
+and_more _ n ns h = h
 
 -- names stay
 pub built_more : (xs : List ItemInMode) (ns : List (List ℕ)) (n : List ℕ) → is_member ns n ≡ true → is_member (built_after xs ns) n ≡ true
@@ -120,10 +114,7 @@ item_back : (x : Plain) (n : List ℕ) (rest ns : List (List ℕ)) → is_member
 item_back (grouping r a ts) n rest ns h =
     let d = apart r n rest h in
     (d.1, either_back (built_on (is_member ns) a ts) r n ns d.0)
-item_back (declaration k xs) n rest ns h = (h, λ e. e)
-item_back (escapes a b) n rest ns h = (h, λ e. e)
-item_back (macro m b q) n rest ns h = (h, λ e. e)
-item_back (routine r c os) n rest ns h = (h, λ e. e)
+item_back _ n rest ns h = (h, λ e. e)
 
 -- none comes that is not defined there
 pub built_back : (xs : List ItemInMode) (ns : List (List ℕ)) (n : List ℕ) → is_member (known_in xs kinds.Groupings) n ≡ false → is_member (built_after xs ns) n ≡ true → is_member ns n ≡ true
@@ -170,10 +161,7 @@ module _ (items : List Item) (passing : Passing (occurrences_of items)) (g : Lis
   one_fresh : (bs rest : List ItemInMode) (m : Mode) (x : Plain) → Parts bs ((record { mode = m; plain = x }) ∷ rest) → (n : List ℕ) → is_member (known_in bs kinds.Groupings) n ≡ true
       → is_member (known_in rest kinds.Groupings) n ≡ false → is_member (names_by kinds.Groupings x ++ known_in rest kinds.Groupings) n ≡ false
   one_fresh bs rest m (grouping r a ts) p n h k = other_name bs rest m r a ts p n h (bytes_eq r n) refl k
-  one_fresh bs rest m (declaration x xs) p n h k = k
-  one_fresh bs rest m (escapes a b) p n h k = k
-  one_fresh bs rest m (macro x b q) p n h k = k
-  one_fresh bs rest m (routine r c os) p n h k = k
+  one_fresh bs rest m _ p n h k = k
 
   -- a grouping of some items is not defined again after them
   fresh : (rest bs : List ItemInMode) → Parts bs rest → (n : List ℕ) → is_member (known_in bs kinds.Groupings) n ≡ true → is_member (known_in rest kinds.Groupings) n ≡ false
@@ -197,10 +185,7 @@ module _ (items : List Item) (passing : Passing (occurrences_of items)) (g : Lis
   built_at : (s : Source) → (λ m. is_affected_by s (Grouping g) (Grouping m)) ≡ is_member whole → (bs rest : List ItemInMode) (m : Mode) (x : Plain) → Parts bs ((record { mode = m; plain = x }) ∷ rest) → IsClosedAt (is_affected_by s (Grouping g)) x
   built_at s e bs rest m (grouping n a ts) p =
       λ h. ap (λ f. f n) e ∙ built_item bs rest m n a ts p (sym (ap (λ f. built_on f a ts) e) ∙ h)
-  built_at s e bs rest m (declaration x xs) p = tt
-  built_at s e bs rest m (escapes a b) p = tt
-  built_at s e bs rest m (macro x b q) p = tt
-  built_at s e bs rest m (routine r c os) p = tt
+  built_at s e bs rest m _ p = tt
 
   built_closed : (s : Source) → (λ m. is_affected_by s (Grouping g) (Grouping m)) ≡ is_member whole → (rest bs : List ItemInMode) → Parts bs rest → AllByRecursion (λ x. IsClosedAt (is_affected_by s (Grouping g)) x.plain) rest
   built_closed s e [] bs p = tt

@@ -37,9 +37,7 @@ module _ (names : Names') where
   abbrev HasPlain : Plain → Type 0
   HasPlain (routine n c os) = is_member names.routines n ≡ true
   HasPlain (grouping n a ts) = is_member names.groupings n ≡ true
-  HasPlain (declaration k ns) = ⊤
-  HasPlain (escapes a b) = ⊤
-  HasPlain (macro n b q) = ⊤
+  HasPlain _ = ⊤
 
   abbrev HaveAll : List ItemInMode → Type 0
   HaveAll is = AllByRecursion (λ x. HasPlain x.plain) is
@@ -72,26 +70,7 @@ module _ (names : Names') where
   plain_there (grouping m a xs) (grouping n b ys) zs is has =
       let same = same_argument a b && pointwise same_term xs ys in
       subst There (same_Some (if same then [] else Grouping m ∷ []) zs (if_so _ _ zs is).1) (terms_there m has same)
-  plain_there (declaration x0 x1) (escapes y0 y1) zs is has = absurd (none-some zs is)
-  plain_there (declaration x0 x1) (macro y0 y1 y2) zs is has = absurd (none-some zs is)
-  plain_there (declaration x0 x1) (routine y0 y1 y2) zs is has = absurd (none-some zs is)
-  plain_there (declaration x0 x1) (grouping y0 y1 y2) zs is has = absurd (none-some zs is)
-  plain_there (escapes x0 x1) (declaration y0 y1) zs is has = absurd (none-some zs is)
-  plain_there (escapes x0 x1) (macro y0 y1 y2) zs is has = absurd (none-some zs is)
-  plain_there (escapes x0 x1) (routine y0 y1 y2) zs is has = absurd (none-some zs is)
-  plain_there (escapes x0 x1) (grouping y0 y1 y2) zs is has = absurd (none-some zs is)
-  plain_there (macro x0 x1 x2) (declaration y0 y1) zs is has = absurd (none-some zs is)
-  plain_there (macro x0 x1 x2) (escapes y0 y1) zs is has = absurd (none-some zs is)
-  plain_there (macro x0 x1 x2) (routine y0 y1 y2) zs is has = absurd (none-some zs is)
-  plain_there (macro x0 x1 x2) (grouping y0 y1 y2) zs is has = absurd (none-some zs is)
-  plain_there (routine x0 x1 x2) (declaration y0 y1) zs is has = absurd (none-some zs is)
-  plain_there (routine x0 x1 x2) (escapes y0 y1) zs is has = absurd (none-some zs is)
-  plain_there (routine x0 x1 x2) (macro y0 y1 y2) zs is has = absurd (none-some zs is)
-  plain_there (routine x0 x1 x2) (grouping y0 y1 y2) zs is has = absurd (none-some zs is)
-  plain_there (grouping x0 x1 x2) (declaration y0 y1) zs is has = absurd (none-some zs is)
-  plain_there (grouping x0 x1 x2) (escapes y0 y1) zs is has = absurd (none-some zs is)
-  plain_there (grouping x0 x1 x2) (macro y0 y1 y2) zs is has = absurd (none-some zs is)
-  plain_there (grouping x0 x1 x2) (routine y0 y1 y2) zs is has = absurd (none-some zs is)
+  plain_there _ _ zs is has = absurd (none-some zs is)
 
   -- the items of one backwardmode, and the items after it
   plains_there : (xs ys : List Plain) (rest : List ItemInMode) (zs : List Part') → differ_plains xs ys ≡ Some zs → HaveAll (in_mode Backward xs ++ rest) → There zs × HaveAll rest
@@ -126,9 +105,7 @@ Within ms ns = (n : List ℕ) → is_member ms n ≡ true → is_member ns n ≡
 own_plain : (names : Names') (x : Plain) (routines groupings : List (List ℕ)) → Within (names_by kinds.Routines x ++ routines) names.routines → Within (names_by kinds.Groupings x ++ groupings) names.groupings → HasPlain names x
 own_plain names (routine n c os) routines groupings p q = p n (first_name n n routines (name_self n))
 own_plain names (grouping n a ts) routines groupings p q = q n (first_name n n groupings (name_self n))
-own_plain names (declaration k ns) routines groupings p q = tt
-own_plain names (escapes a b) routines groupings p q = tt
-own_plain names (macro n b x) routines groupings p q = tt
+own_plain names _ routines groupings p q = tt
 
 own_names : (names : Names') (is : List ItemInMode) → Within (known_in is kinds.Routines) names.routines → Within (known_in is kinds.Groupings) names.groupings → HaveAll names is
 own_names names [] p q = tt

@@ -83,26 +83,7 @@ module _ (picked : Part' → Bool) where
       let same = same_argument a b && pointwise same_term xs ys in
       let e = same_Some (if same then [] else Grouping m ∷ []) zs h.1 in
       groupings m a b xs ys same refl (ap (list_all picked) e ∙ all) ∙ ap (λ (x : List ℕ). holed_plain picked (grouping x b ys)) (name_is m n h.0)
-  plain_agree (declaration x0 x1) (escapes y0 y1) zs is all = absurd (none-some zs is)
-  plain_agree (declaration x0 x1) (macro y0 y1 y2) zs is all = absurd (none-some zs is)
-  plain_agree (declaration x0 x1) (routine y0 y1 y2) zs is all = absurd (none-some zs is)
-  plain_agree (declaration x0 x1) (grouping y0 y1 y2) zs is all = absurd (none-some zs is)
-  plain_agree (escapes x0 x1) (declaration y0 y1) zs is all = absurd (none-some zs is)
-  plain_agree (escapes x0 x1) (macro y0 y1 y2) zs is all = absurd (none-some zs is)
-  plain_agree (escapes x0 x1) (routine y0 y1 y2) zs is all = absurd (none-some zs is)
-  plain_agree (escapes x0 x1) (grouping y0 y1 y2) zs is all = absurd (none-some zs is)
-  plain_agree (macro x0 x1 x2) (declaration y0 y1) zs is all = absurd (none-some zs is)
-  plain_agree (macro x0 x1 x2) (escapes y0 y1) zs is all = absurd (none-some zs is)
-  plain_agree (macro x0 x1 x2) (routine y0 y1 y2) zs is all = absurd (none-some zs is)
-  plain_agree (macro x0 x1 x2) (grouping y0 y1 y2) zs is all = absurd (none-some zs is)
-  plain_agree (routine x0 x1 x2) (declaration y0 y1) zs is all = absurd (none-some zs is)
-  plain_agree (routine x0 x1 x2) (escapes y0 y1) zs is all = absurd (none-some zs is)
-  plain_agree (routine x0 x1 x2) (macro y0 y1 y2) zs is all = absurd (none-some zs is)
-  plain_agree (routine x0 x1 x2) (grouping y0 y1 y2) zs is all = absurd (none-some zs is)
-  plain_agree (grouping x0 x1 x2) (declaration y0 y1) zs is all = absurd (none-some zs is)
-  plain_agree (grouping x0 x1 x2) (escapes y0 y1) zs is all = absurd (none-some zs is)
-  plain_agree (grouping x0 x1 x2) (macro y0 y1 y2) zs is all = absurd (none-some zs is)
-  plain_agree (grouping x0 x1 x2) (routine y0 y1 y2) zs is all = absurd (none-some zs is)
+  plain_agree _ _ zs is all = absurd (none-some zs is)
 
   plains_agree : (xs ys : List Plain) (zs : List Part') → differ_plains xs ys ≡ Some zs → Picked zs → map (holed_plain picked) xs ≡ map (holed_plain picked) ys
   plains_agree [] [] zs is all = refl

@@ -183,31 +183,19 @@ later_name n m rest h = by (bytes_eq m n)
 
 routine_own : (n : List ℕ) (x : Plain) → is_routine_named n x ≡ true → (rest : List (List ℕ)) → is_member (names_by kinds.Routines x ++ rest) n ≡ true
 routine_own n (routine m c os) e rest = first_name n m rest e
-routine_own n (declaration k ns) e rest = absurd (true≢false (sym e))
-routine_own n (escapes a b) e rest = absurd (true≢false (sym e))
-routine_own n (macro m b q) e rest = absurd (true≢false (sym e))
-routine_own n (grouping m a ts) e rest = absurd (true≢false (sym e))
+routine_own n _ e rest = absurd (true≢false (sym e))
 
 pub routine_more : (n : List ℕ) (x : Plain) (rest : List (List ℕ)) → is_member rest n ≡ true → is_member (names_by kinds.Routines x ++ rest) n ≡ true
 routine_more n (routine m c os) rest h = later_name n m rest h
-routine_more n (declaration k ns) rest h = h
-routine_more n (escapes a b) rest h = h
-routine_more n (macro m b q) rest h = h
-routine_more n (grouping m a ts) rest h = h
+routine_more n _ rest h = h
 
 grouping_own : (n : List ℕ) (x : Plain) → is_grouping_named n x ≡ true → (rest : List (List ℕ)) → is_member (names_by kinds.Groupings x ++ rest) n ≡ true
 grouping_own n (grouping m a ts) e rest = first_name n m rest e
-grouping_own n (declaration k ns) e rest = absurd (true≢false (sym e))
-grouping_own n (escapes a b) e rest = absurd (true≢false (sym e))
-grouping_own n (macro m b q) e rest = absurd (true≢false (sym e))
-grouping_own n (routine m c os) e rest = absurd (true≢false (sym e))
+grouping_own n _ e rest = absurd (true≢false (sym e))
 
 pub grouping_more : (n : List ℕ) (x : Plain) (rest : List (List ℕ)) → is_member rest n ≡ true → is_member (names_by kinds.Groupings x ++ rest) n ≡ true
 grouping_more n (grouping m a ts) rest h = later_name n m rest h
-grouping_more n (declaration k ns) rest h = h
-grouping_more n (escapes a b) rest h = h
-grouping_more n (macro m b q) rest h = h
-grouping_more n (routine m c os) rest h = h
+grouping_more n _ rest h = h
 
 routine_known : (n : List ℕ) (is : List Item) (x : Plain) → first_passing (is_routine_named n) is ≡ Some x → is_member (known_in (in_order is) kinds.Routines) n ≡ true
 routine_known n is x at = items_known n kinds.Routines (is_routine_named n) (routine_own n) (routine_more n) is x at

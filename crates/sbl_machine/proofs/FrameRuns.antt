@@ -51,20 +51,11 @@ module _ (picked : Touch → Bool) (ns : DeclaredNames) (class : List ℕ → �
   mutual
     blanks_grown : (t : trees.Command) (rest : trees.Rows) → RowsGrown rest → RowsGrown (blanks t rest)
     blanks_grown (bracket rs) rest h = blanks_rows_grown rs rest h
-    blanks_grown (simple_ x) rest h = h
-    blanks_grown (literal_ x) rest h = h
-    blanks_grown (name_ x) rest h = h
-    blanks_grown (non_ x y) rest h = h
     blanks_grown (prefixed x c) rest h = blanks_grown c rest h
     blanks_grown (counted x e c) rest h = blanks_grown c rest h
-    blanks_grown (move_ x y) rest h = h
-    blanks_grown (named x y) rest h = h
-    blanks_grown (splice_ x y) rest h = h
     blanks_grown (setlimit_ b c) rest h = blanks_grown b (blanks c rest) (blanks_grown c rest h)
-    blanks_grown (assign_ x y z) rest h = h
-    blanks_grown (compare_ x y z) rest h = h
-    blanks_grown (compare_values_ x y z) rest h = h
     blanks_grown (among_ s gs) rest h = blank_grown (blanks_starter s (blanks_groups gs rest)) (blanks_starter_grown s (blanks_groups gs rest) (blanks_groups_grown gs rest h))
+    blanks_grown _ rest h = h
 
     blanks_rows_grown : (rs : trees.Rows) (rest : trees.Rows) → RowsGrown rest → RowsGrown (blanks_rows rs rest)
     blanks_rows_grown no_rows rest h = h
@@ -123,20 +114,11 @@ module _ (picked : Touch → Bool) (ns : DeclaredNames) (class class' : List ℕ
   mutual
     first_like : (t : trees.Command) (r : Mode) (k k' : ℕ) (n n' : Option Among) → k' ≡ k → Like n n' → Like (first r t k n) (first r (with_holes holes k t) k' n')
     first_like (bracket rs) r k k' n n' p h = first_rows_like rs r k k' n n' p h
-    first_like (simple_ x) r k k' n n' p h = h
-    first_like (literal_ x) r k k' n n' p h = h
-    first_like (name_ x) r k k' n n' p h = h
-    first_like (non_ x y) r k k' n n' p h = h
     first_like (prefixed x c) r k k' n n' p h = first_like c (mode_under x r) k k' n n' p h
     first_like (counted x e c) r k k' n n' p h = first_like c r k k' n n' p h
-    first_like (move_ x y) r k k' n n' p h = h
-    first_like (named x y) r k k' n n' p h = h
-    first_like (splice_ x y) r k k' n n' p h = h
     first_like (setlimit_ b c) r k k' n n' p h = first_like b r k k' _ _ p (first_like c r (number_after b k) _ n n' (after_same holes b k k' p) h)
-    first_like (assign_ x y z) r k k' n n' p h = h
-    first_like (compare_ x y z) r k k' n n' p h = h
-    first_like (compare_values_ x y z) r k k' n n' p h = h
     first_like (among_ st gs) r k k' n n' p h = like_among r k k' st gs n' (holes (suc k)) refl p
+    first_like _ r k k' n n' p h = h
 
     first_rows_like : (rs : trees.Rows) (r : Mode) (k k' : ℕ) (n n' : Option Among) → k' ≡ k → Like n n' → Like (first_rows r rs k n) (first_rows r (rows_with_holes holes k rs) k' n')
     first_rows_like no_rows r k k' n n' p h = h

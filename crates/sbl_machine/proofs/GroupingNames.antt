@@ -19,7 +19,8 @@ use Rattle.sbl_resolver.specs.inside.CheckParts.{is_some_and}
 use Rattle.sbl_resolver.proofs.Extends.{Extends, then_, items_more, put_more}
 use Rattle.sbl_semantics.specs.Items.{known_in, names_by, is_member}
 use Rattle.sbl_machine.proofs.Noticed.{look, look_kept, kinds_at, site_is, sites_quiet, routine_still, grouping_still}
-use Rattle.sbl_machine.proofs.NamesStand.{names_site, site_put, Passing, at_mark, kind_kept, routine_kind, test_fails, rest_fails, not_false, terms_extend, plain_after, grouping_after, flip, or_true}
+use Rattle.sbl_machine.proofs.NamesStand.{names_site, site_put, Passing, at_mark, kind_kept, routine_kind, not_false, terms_extend, plain_after, grouping_after, flip, or_true}
+use Rattle.sbl_resolver.proofs.FirstFault.{rest_fails, test_fails}
 
 -- ---- the occurrences of items
 
@@ -112,11 +113,7 @@ defined_in (x ∷ xs) i s n h e = at (place_after x.plain (place_of i x) s n e) 
 not_both : (k : Option DeclarationKind) → is_some_and is_routine k ≡ true → is_some_and is_grouping k ≡ true → ⊥
 not_both None r g = cc
 not_both (Some kinds.Strings) r g = cc
-not_both (Some kinds.Integers) r g = cc
-not_both (Some kinds.Booleans) r g = cc
-not_both (Some kinds.Routines) r g = cc
-not_both (Some kinds.Externals) r g = cc
-not_both (Some kinds.Groupings) r g = cc
+not_both _ r g = cc
 
 -- the names of a term, and of some, are among these
 abbrev pub IsKnown : List (List ℕ) → Argument → Type 0

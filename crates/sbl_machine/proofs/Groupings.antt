@@ -10,7 +10,7 @@ use Rattle.sbl_ast.specs.Order.{ItemInMode, in_order}
 use Rattle.sbl_ast.specs.declared.mode.Mode.{Mode}
 use Rattle.sbl_ast.specs.declared.tree.Additive.TheVariants.{Plus, Minus}
 use Rattle.sbl_ast.specs.declared.tree.DeclarationKind.TheVariants as kinds
-use Rattle.sbl_ast.specs.Tree.{Argument, written_out, by_name, Term, term, Plain, declaration, escapes, macro, routine, grouping}
+use Rattle.sbl_ast.specs.Tree.{Argument, written_out, by_name, Term, term, Plain, grouping}
 use Rattle.sbl_resolver.specs.Laws.{WellDeclaredPasses}
 use Rattle.sbl_semantics.specs.Items.{Grouping, and_grouping, char_class_of, classes_after, known_in, names_by, is_member, term_has, terms_have}
 use Rattle.sbl_machine.specs.Groupings.{groupings_of, Has, Leaves, IsOfTerms, GroupingsAreTheirTerms, GroupingsHaveTheirTerms}
@@ -27,10 +27,7 @@ More gs all = (more : List Grouping) × (all ≡ gs ++ more)
 
 and_more : (y : Plain) (gs : List Grouping) → More gs (and_grouping y gs)
 and_more (grouping n a ts) gs = ((record { name = n; has = λ c. terms_have gs ts (term_has gs a c) c }) ∷ [], refl)
-and_more (declaration k ns) gs = ([], sym (append-nil gs))
-and_more (escapes a b) gs = ([], sym (append-nil gs))
-and_more (macro m b q) gs = ([], sym (append-nil gs))
-and_more (routine r c os) gs = ([], sym (append-nil gs))
+and_more _ gs = ([], sym (append-nil gs))
 
 classes_more : (xs : List ItemInMode) (gs : List Grouping) → More gs (classes_after xs gs)
 classes_more [] gs = ([], sym (append-nil gs))
@@ -47,10 +44,7 @@ names_more : (y : Plain) (gs : List Grouping) (rest : List (List ℕ)) → map n
 names_more (grouping n a ts) gs rest =
     let g : Grouping = record { name = n; has = λ c. terms_have gs ts (term_has gs a c) c } in
     ap (λ l. l ++ rest) (map-append name_of gs (g ∷ [])) ∙ append_assoc (map name_of gs) (n ∷ []) rest
-names_more (declaration k ns) gs rest = refl
-names_more (escapes a b) gs rest = refl
-names_more (macro m b q) gs rest = refl
-names_more (routine r c os) gs rest = refl
+names_more _ gs rest = refl
 
 pub class_names : (xs : List ItemInMode) (gs : List Grouping) → map name_of (classes_after xs gs) ≡ map name_of gs ++ known_in xs kinds.Groupings
 class_names [] gs = sym (append-nil (map name_of gs))

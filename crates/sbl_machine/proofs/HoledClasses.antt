@@ -9,7 +9,7 @@ use Rattle.std.proofs.Math.Path.{fun_ext}
 use Rattle.sbl_ast.specs.Order.{ItemInMode}
 use Rattle.sbl_ast.specs.declared.tree.Additive.TheVariants.{Plus, Minus}
 use Rattle.sbl_ast.specs.declared.tree.DeclarationKind.TheVariants as kinds
-use Rattle.sbl_ast.specs.Tree.{Command, Others, Argument, written_out, by_name, Term, term, Plain, declaration, escapes, macro, routine, grouping}
+use Rattle.sbl_ast.specs.Tree.{Command, Others, Argument, written_out, by_name, Term, term, Plain, routine, grouping}
 use Rattle.sbl_semantics.specs.Items.{Grouping, and_grouping, char_class_of, classes_after, is_member, known_in, term_has, terms_have}
 use Rattle.sbl_machine.specs.BuiltFrom.{any_names, IsClosedAt}
 use Rattle.sbl_machine.specs.inside.BuiltFromParts.{names}
@@ -123,9 +123,7 @@ module _ (picked : Part' → Bool) where
   plain_like : (gs gs' : List Grouping) → AllLike gs gs' → (x : Plain) → IsClosedAt picked x → AllLike (and_grouping x gs) (and_grouping (holed_plain picked x) gs')
   plain_like gs gs' h (grouping n a ts) closed = grouping_like gs gs' h n a ts closed (is_picked n) refl
   plain_like gs gs' h (routine n c os) closed = routine_like gs gs' h n _ _ _ _ (picked (Routine n))
-  plain_like gs gs' h (declaration k xs) closed = h
-  plain_like gs gs' h (escapes a b) closed = h
-  plain_like gs gs' h (macro n b q) closed = h
+  plain_like gs gs' h _ closed = h
 
   items_like : (xs : List ItemInMode) (gs gs' : List Grouping) → AllLike gs gs' → AllByRecursion (λ x. IsClosedAt picked x.plain) xs → AllLike (classes_after xs gs) (classes_after (holed_items picked xs) gs')
   items_like [] gs gs' h closed = h

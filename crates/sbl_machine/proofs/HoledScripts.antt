@@ -10,7 +10,7 @@ use Rattle.sbl_ast.specs.Order.{ItemInMode, in_order}
 use Rattle.sbl_ast.specs.inside.OrderParts.{in_mode}
 use Rattle.sbl_ast.specs.declared.tree.DeclarationKind.{DeclarationKind}
 use Rattle.sbl_ast.specs.declared.tree.DeclarationKind.TheVariants as kinds
-use Rattle.sbl_ast.specs.Tree.{Command, Others, Argument, written_out, Term, Plain, Item, bracket, no_rows, no_others, declaration, escapes, macro, routine, grouping, plain, backward}
+use Rattle.sbl_ast.specs.Tree.{Command, Others, Argument, written_out, Term, Plain, Item, bracket, no_rows, no_others, routine, grouping, plain, backward}
 use Rattle.sbl_ast.specs.declared.mode.Mode.{Mode}
 use Rattle.sbl_ast.specs.declared.mode.Mode.TheVariants.{Forward, Backward}
 use Rattle.sbl_semantics.specs.Items.{DeclaredNames, is_member, place_of, names_by, known_in, Body, body_or, body_named}
@@ -45,26 +45,16 @@ module _ (picked : Part' → Bool) where
 
   routine_by : (k : DeclarationKind) (n : List ℕ) (c c' : Command) (os os' : Others) → names_by k (routine n c os) ≡ names_by k (routine n c' os')
   routine_by kinds.Strings n c c' os os' = refl
-  routine_by kinds.Integers n c c' os os' = refl
-  routine_by kinds.Booleans n c c' os os' = refl
-  routine_by kinds.Routines n c c' os os' = refl
-  routine_by kinds.Externals n c c' os os' = refl
-  routine_by kinds.Groupings n c c' os os' = refl
+  routine_by _ n c c' os os' = refl
 
   grouping_by : (k : DeclarationKind) (n : List ℕ) (a a' : Argument) (ts ts' : List Term) → names_by k (grouping n a ts) ≡ names_by k (grouping n a' ts')
   grouping_by kinds.Strings n a a' ts ts' = refl
-  grouping_by kinds.Integers n a a' ts ts' = refl
-  grouping_by kinds.Booleans n a a' ts ts' = refl
-  grouping_by kinds.Routines n a a' ts ts' = refl
-  grouping_by kinds.Externals n a a' ts ts' = refl
-  grouping_by kinds.Groupings n a a' ts ts' = refl
+  grouping_by _ n a a' ts ts' = refl
 
   plain_names : (k : DeclarationKind) (x : Plain) → names_by k (holed_plain picked x) ≡ names_by k x
   plain_names k (routine n c os) = either_way (picked (Routine n)) (names_by k) _ _ (names_by k (routine n c os)) (routine_by k n _ c _ os) (routine_by k n _ c _ os)
   plain_names k (grouping n a ts) = either_way (picked (Grouping n)) (names_by k) _ _ (names_by k (grouping n a ts)) (grouping_by k n _ a _ ts) refl
-  plain_names k (declaration x xs) = refl
-  plain_names k (escapes a b) = refl
-  plain_names k (macro n b q) = refl
+  plain_names k _ = refl
 
   names_by_kind : (xs : List ItemInMode) (k : DeclarationKind) → known_in (holed_items xs) k ≡ known_in xs k
   names_by_kind [] k = refl
@@ -93,9 +83,7 @@ module _ (picked : Part' → Bool) where
   closed_plain : (x : Plain) → IsClosedAt picked (holed_plain picked x) ↔ IsClosedAt picked x
   closed_plain (routine n c os) = (λ h. tt, λ h. routine_closed n _ _ _ _ (picked (Routine n)))
   closed_plain (grouping n a ts) = grouping_closed n a ts (picked (Grouping n)) refl
-  closed_plain (declaration x xs) = (λ h. tt, λ h. tt)
-  closed_plain (escapes a b) = (λ h. tt, λ h. tt)
-  closed_plain (macro n b q) = (λ h. tt, λ h. tt)
+  closed_plain _ = (λ h. tt, λ h. tt)
 
   abbrev AreClosed : List ItemInMode → Type 0
   AreClosed xs = AllByRecursion (λ x. IsClosedAt picked x.plain) xs
@@ -143,10 +131,8 @@ module _ (picked : Part' → Bool) where
 
   item_body : (m : Mode) (x : Plain) (n : List ℕ) (rest : Option Body) → body_or m (holed_plain picked x) n (option_map (holed_body n) rest) ≡ option_map (holed_body n) (body_or m x n rest)
   item_body m (routine r c os) n rest = holed_or m r n c os (option_map (holed_body n) rest) (picked (Routine r)) ∙ one_body r n (body_by m r c os) rest (bytes_eq r n) refl
-  item_body m (declaration k xs) n rest = refl
-  item_body m (escapes a b) n rest = refl
-  item_body m (macro y b q) n rest = refl
   item_body m (grouping y a ts) n rest = either_way (picked (Grouping y)) (λ x. body_or m x n (option_map (holed_body n) rest)) _ _ (option_map (holed_body n) rest) refl refl
+  item_body m _ n rest = refl
 
   pub bodies_holed : (xs : List ItemInMode) (n : List ℕ) → body_named (holed_items xs) n ≡ option_map (holed_body n) (body_named xs n)
   bodies_holed [] n = refl
@@ -166,10 +152,7 @@ stands_first r n x xs h false e y is = h y is
 stands_item : (m : Mode) (x : Plain) (n : List ℕ) (xs : List ItemInMode) → Stands xs n → (y : Body) → body_or m x n (body_named xs n) ≡ Some y
     → slice_index_or (names_by kinds.Routines x ++ known_in xs kinds.Routines) (place_of (names_by kinds.Routines x ++ known_in xs kinds.Routines) n) [] ≡ n
 stands_item m (routine r c os) n xs h y is = stands_first r n (record { mode = m; first = c; others = os }) xs h (bytes_eq r n) refl y is
-stands_item m (declaration k ys) n xs h y is = h y is
-stands_item m (escapes a b) n xs h y is = h y is
-stands_item m (macro z b q) n xs h y is = h y is
-stands_item m (grouping z a ts) n xs h y is = h y is
+stands_item m _ n xs h y is = h y is
 
 pub name_stands : (xs : List ItemInMode) (n : List ℕ) (b : Body) → body_named xs n ≡ Some b → slice_index_or (known_in xs kinds.Routines) (place_of (known_in xs kinds.Routines) n) [] ≡ n
 name_stands [] n b is = let never : None ≡ Some b = is in absurd cc

@@ -11,20 +11,11 @@ use Rattle.sbl_semantics.specs.Meaning.{offer, offers}
 mutual
   blanks_same : (t : Command) (rest : Rows) (k : ℕ) → number_after_rows (blanks t rest) k ≡ number_after_rows rest (number_after t k)
   blanks_same (bracket rs) rest k = blanks_rows_same rs rest k
-  blanks_same (simple_ x) rest k = refl
-  blanks_same (literal_ x) rest k = refl
-  blanks_same (name_ x) rest k = refl
-  blanks_same (non_ x y) rest k = refl
   blanks_same (prefixed x c) rest k = blanks_same c rest k
   blanks_same (counted x e c) rest k = blanks_same c rest k
-  blanks_same (move_ x y) rest k = refl
-  blanks_same (named x y) rest k = refl
-  blanks_same (splice_ x y) rest k = refl
   blanks_same (setlimit_ b c) rest k = blanks_same b (blanks c rest) k ∙ blanks_same c rest (number_after b k)
-  blanks_same (assign_ x y z) rest k = refl
-  blanks_same (compare_ x y z) rest k = refl
-  blanks_same (compare_values_ x y z) rest k = refl
   blanks_same (among_ s gs) rest k = blanks_starter_same s (blanks_groups gs rest) (suc k) ∙ blanks_groups_same gs rest (number_after_starter s (suc k))
+  blanks_same _ rest k = refl
 
   blanks_rows_same : (rs : Rows) (rest : Rows) (k : ℕ) → number_after_rows (blanks_rows rs rest) k ≡ number_after_rows rest (number_after_rows rs k)
   blanks_rows_same no_rows rest k = refl
@@ -101,19 +92,11 @@ module _ (holes : ℕ → Bool) where
     pub waits_same : (t : Command) (k : ℕ) (w w' : Bool) → w' ≡ w → waits (with_holes holes k t) w' ≡ waits t w
     waits_same (bracket rs) k w w' p = waits_rows_same rs k w w' p
     waits_same (simple_ s) k w w' p = ap (waits (simple_ s)) p
-    waits_same (literal_ x) k w w' p = p
-    waits_same (name_ x) k w w' p = p
-    waits_same (non_ x y) k w w' p = p
     waits_same (prefixed x c) k w w' p = waits_same c k w w' p
     waits_same (counted x e c) k w w' p = waits_same c k w w' p
-    waits_same (move_ x y) k w w' p = p
-    waits_same (named x y) k w w' p = p
-    waits_same (splice_ x y) k w w' p = p
     waits_same (setlimit_ b c) k w w' p = waits_same c (number_after b k) _ _ (waits_same b k w w' p)
-    waits_same (assign_ x y z) k w w' p = p
-    waits_same (compare_ x y z) k w w' p = p
-    waits_same (compare_values_ x y z) k w w' p = p
     waits_same (among_ s gs) k w w' p = waits_either (holes (suc k)) _ _ w' false refl refl
+    waits_same _ k w w' p = p
 
     waits_rows_same : (rs : Rows) (k : ℕ) (w w' : Bool) → w' ≡ w → waits_rows (rows_with_holes holes k rs) w' ≡ waits_rows rs w
     waits_rows_same no_rows k w w' p = p

@@ -142,11 +142,8 @@ or_shift : (a b c d : Bool) → ((a && d) || ((d && b) || c)) ≡ (((b || a) && 
 or_shift true true c true = refl
 or_shift true false c true = refl
 or_shift false true c true = refl
-or_shift false false c true = refl
 or_shift true true c false = refl
-or_shift true false c false = refl
-or_shift false true c false = refl
-or_shift false false c false = refl
+or_shift _ _ c _ = refl
 
 module _ (numbers : List ℕ → List ℕ) (j l : ℕ) where
   abbrev has_search : List Touch → Bool

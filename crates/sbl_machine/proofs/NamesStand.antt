@@ -3,7 +3,6 @@ use Rattle.std.proofs.Common.{◌≡◌, ◌⊎◌, inl, inr, ℕ, ◌+◌, Bool
 use Rattle.std.specs.Option.{option_or}
 use Rattle.std.specs.Str.{bytes_eq}
 use Rattle.std.proofs.lemmas.Slice.Eq.{bytes_eq-Decides}
-use Rattle.sbl_text.specs.declared.fault.ScriptFault.{ScriptFault}
 use Rattle.sbl_text.specs.declared.fault.ScriptFault.TheVariants as fault
 use Rattle.sbl_ast.specs.Order.{ItemInMode, in_order}
 use Rattle.sbl_ast.specs.declared.tree.DeclarationKind.{DeclarationKind}
@@ -20,6 +19,7 @@ use Rattle.sbl_resolver.specs.Checks.{kind_of, defined_at, definition_of, may_be
 use Rattle.sbl_resolver.specs.inside.CheckParts.{is_some_and}
 use Rattle.sbl_resolver.specs.Laws.{EachPasses, NamesResolve, Resolves, WellDeclaredPasses}
 use Rattle.sbl_resolver.proofs.Extends.{Extends, same, then_, items_more, put_more, command_more, others_more}
+use Rattle.sbl_resolver.proofs.FirstFault.{rest_fails, test_fails}
 use Rattle.sbl_semantics.specs.Items.{Body, body_named, is_member, known_in, names_by}
 use Rattle.sbl_semantics.proofs.SameParts as parts
 use Rattle.sbl_machine.specs.NamesStand.{HasBody, StandsFor, NamesStand}
@@ -112,14 +112,6 @@ module _ (kind : DeclarationKind) (here : (ns : List (List ℕ)) → names_by ki
           ∙ among_left d.names (known_in xs kind) n d.there
 
 -- ---- definitions
-
-pub test_fails : (b : Bool) (f : ScriptFault) (rest : Option ScriptFault) → cond b (Some f) rest ≡ None → b ≡ false
-test_fails true f rest e = absurd cc
-test_fails false f rest e = refl
-
-pub rest_fails : (b : Bool) (f : ScriptFault) (rest : Option ScriptFault) → cond b (Some f) rest ≡ None → rest ≡ None
-rest_fails true f rest e = absurd cc
-rest_fails false f rest e = e
 
 pub not_false : (b : Bool) → not b ≡ false → b ≡ true
 not_false true e = refl
@@ -298,11 +290,7 @@ module _ (items : List Item) (passing : Passing (occurrences_of items)) (u : Use
 
   never_both : (k : DeclarationKind) → is_routine k ≡ true → is_grouping k ≡ true → ⊥
   never_both kinds.Strings h g = cc
-  never_both kinds.Integers h g = cc
-  never_both kinds.Booleans h g = cc
-  never_both kinds.Routines h g = cc
-  never_both kinds.Externals h g = cc
-  never_both kinds.Groupings h g = cc
+  never_both _ h g = cc
 
   kind_passes : (test : DeclarationKind → Bool) → is_some_and test (look (kinds_at n) all) ≡ true → test r.kind ≡ true
   kind_passes test h = sym (ap (is_some_and test) kind_there) ∙ h

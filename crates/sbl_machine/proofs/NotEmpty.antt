@@ -19,7 +19,7 @@ use Rattle.sbl_ast.specs.Places.{AtDepth, placed_plain, places, tokens}
 use Rattle.sbl_ast.specs.inside.PlaceParts.{placed_items, placed_plains}
 use Rattle.sbl_token.specs.Lexemes as lex
 use Rattle.sbl_token.specs.declared.signs.Sign.TheVariants as signs
-use Rattle.sbl_ast.specs.Tree.{Plain, declaration, escapes, macro, routine, grouping, Item, plain, backward}
+use Rattle.sbl_ast.specs.Tree.{Plain, routine, grouping, Item, plain, backward}
 use Rattle.sbl_ast.specs.declared.mode.Mode.TheVariants.{Backward}
 use Rattle.sbl_ast.specs.declared.tree.DeclarationKind.{DeclarationKind}
 use Rattle.sbl_ast.specs.declared.tree.DeclarationKind.TheVariants as kinds
@@ -46,9 +46,7 @@ no_text s shape.Sign text h = let never : name [] ≡ sign _ = h.3.0.2 in absurd
 no_text s shape.Literal text h = let never : name [] ≡ literal _ _ = h.3.0.4 in absurd cc
 no_text s shape.Inserts text h = let never : name [] ≡ inserts _ _ = h.3.0.3 in absurd cc
 no_text s shape.MacroName text h = let never : name [] ≡ macro_name _ = h.3.0 in absurd cc
-no_text s shape.Blank text h = absurd h.3.0
-no_text s shape.LineComment text h = absurd h.3.0
-no_text s shape.BlockComment text h = absurd h.3.0
+no_text s _ text h = absurd h.3.0
 
 -- a token that is no empty name
 abbrev IsNamed : AtDepth → Type 0
@@ -83,17 +81,11 @@ one_more (c ∷ cs) rest h e = e
 
 routine_named : (x : Plain) (r : Ps) → Each (placed_plain x r) → (rest : List (List ℕ)) → is_member rest [] ≡ false → is_member (names_by kinds.Routines x ++ rest) [] ≡ false
 routine_named (routine n c os) r h rest e = one_more n rest h.1.0 e
-routine_named (grouping n a ts) r h rest e = e
-routine_named (declaration k ns) r h rest e = e
-routine_named (escapes a b) r h rest e = e
-routine_named (macro n b q) r h rest e = e
+routine_named _ r h rest e = e
 
 grouping_named : (x : Plain) (r : Ps) → Each (placed_plain x r) → (rest : List (List ℕ)) → is_member rest [] ≡ false → is_member (names_by kinds.Groupings x ++ rest) [] ≡ false
 grouping_named (grouping n a ts) r h rest e = one_more n rest h.1.0 e
-grouping_named (routine n c os) r h rest e = e
-grouping_named (declaration k ns) r h rest e = e
-grouping_named (escapes a b) r h rest e = e
-grouping_named (macro n b q) r h rest e = e
+grouping_named _ r h rest e = e
 
 module _ (k : DeclarationKind) (one : (x : Plain) (r : Ps) → Each (placed_plain x r) → (rest : List (List ℕ)) → is_member rest [] ≡ false → is_member (names_by k x ++ rest) [] ≡ false) where
   plains_named : (xs : List Plain) (r : Ps) → Each (placed_plains xs r) → (ys : List ItemInMode) → is_member (known_in ys k) [] ≡ false → is_member (known_in (in_mode Backward xs ++ ys) k) [] ≡ false

@@ -6,7 +6,7 @@ use Rattle.sbl_ast.specs.declared.tree.Prefix.{Prefix}
 use Rattle.sbl_ast.specs.declared.tree.Prefix.TheVariants as prefixes
 use Rattle.sbl_ast.specs.declared.tree.Simple.{Simple}
 use Rattle.sbl_ast.specs.declared.tree.Simple.TheVariants as simples
-use Rattle.sbl_ast.specs.Tree.{Argument, written_out, by_name, Expression, expression, Sums, no_sums, sum, Product, product, Scales, no_scales, scale, Factor, negated, bracketed, numeral, variable, fixed, length_of, Entry, entry, Command, bracket, simple_, literal_, name_, non_, prefixed, counted, move_, named, splice_, setlimit_, assign_, compare_, compare_values_, among_, Rows, no_rows, row, Others, no_others, joined, Starter, no_starter, starter, Groups, bare, group, Term, term, routine, grouping}
+use Rattle.sbl_ast.specs.Tree.{Argument, written_out, by_name, Expression, expression, Sums, no_sums, sum, Product, product, Scales, no_scales, scale, Factor, negated, bracketed, variable, length_of, Entry, entry, Command, bracket, simple_, literal_, name_, non_, prefixed, counted, move_, named, splice_, setlimit_, assign_, compare_, compare_values_, among_, Rows, no_rows, row, Others, no_others, joined, Starter, no_starter, starter, Groups, bare, group, Term, term, routine, grouping}
 use Rattle.sbl_resolver.specs.declared.occurrences.Site.{Site}
 use Rattle.sbl_resolver.specs.declared.occurrences.Use.TheVariants as use_as
 use Rattle.sbl_resolver.specs.Occurrences.{Occurrence, Notice, put, uses, substring, among, string, backwards, region_end, declares, defines_routine, defines_grouping, amongs_in, noted_expression, use_of, noted_entry, noted_entries, is_empty, noted_command, noted_rows, noted_others, noted_groups, noted_plain, noted_name}
@@ -89,35 +89,20 @@ module _ {X : Type 0} (f : Occurrence → Option X) (quiet : (n : Notice) (p : S
     factor_still : (g : Factor) (p : Site) (s : List Occurrence) → Still s (noted_factor g p s)
     factor_still (negated g) p s = factor_still g p s
     factor_still (bracketed e) p s = walked_still e p s
-    factor_still (numeral n) p s = refl
     factor_still (variable n) p s = put_still (uses use_as.Integer n) p s refl
-    factor_still (fixed c) p s = refl
     factor_still (length_of a) p s = string_still a p s
+    factor_still _ p s = refl
 
   expression_still : (e : Expression) (p : Site) (s : List Occurrence) → Still s (noted_expression e p s)
   expression_still e p s = ap (look f) (expression_is e p s) ∙ walked_still e p s
 
   simple_still : (x : Simple) (p : Site) (s : List Occurrence) → Still s (noted_simple x p s)
   simple_still simples.Substring p s = put_still substring p s refl
-  simple_still simples.LeftBracket p s = refl
-  simple_still simples.RightBracket p s = refl
-  simple_still simples.Next p s = refl
-  simple_still simples.ToLimit p s = refl
-  simple_still simples.AtLimit p s = refl
-  simple_still simples.Delete p s = refl
-  simple_still simples.True p s = refl
-  simple_still simples.False p s = refl
+  simple_still _ p s = refl
 
   prefix_still : (x : Prefix) (p : Site) (s : List Occurrence) → Still s (noted_prefix x p s)
   prefix_still prefixes.Backwards p s = put_still backwards p s refl
-  prefix_still prefixes.Not p s = refl
-  prefix_still prefixes.Test p s = refl
-  prefix_still prefixes.Try p s = refl
-  prefix_still prefixes.Do p s = refl
-  prefix_still prefixes.Fail p s = refl
-  prefix_still prefixes.Repeat p s = refl
-  prefix_still prefixes.GoTo p s = refl
-  prefix_still prefixes.GoPast p s = refl
+  prefix_still _ p s = refl
 
   condition_still : (c : Option (List ℕ)) (p : Site) (s : List Occurrence) → Still s (noted_condition c p s)
   condition_still None p s = refl
@@ -191,20 +176,10 @@ pub kinds_quiet : (n : List ℕ) (x : Notice) (p : Site) → is_quiet x ≡ true
 kinds_quiet n (declares k x) p e = absurd cc
 kinds_quiet n (defines_routine x) p e = absurd cc
 kinds_quiet n (defines_grouping x) p e = absurd cc
-kinds_quiet n (uses u x) p e = refl
-kinds_quiet n substring p e = refl
-kinds_quiet n (among a b) p e = refl
-kinds_quiet n (string o t) p e = refl
-kinds_quiet n backwards p e = refl
-kinds_quiet n region_end p e = refl
+kinds_quiet n _ p e = refl
 
 pub sites_quiet : (n : List ℕ) (x : Notice) (p : Site) → is_quiet x ≡ true → defined_at n (record { site = p; notice = x }) ≡ None
 sites_quiet n (declares k x) p e = absurd cc
 sites_quiet n (defines_routine x) p e = absurd cc
 sites_quiet n (defines_grouping x) p e = absurd cc
-sites_quiet n (uses u x) p e = refl
-sites_quiet n substring p e = refl
-sites_quiet n (among a b) p e = refl
-sites_quiet n (string o t) p e = refl
-sites_quiet n backwards p e = refl
-sites_quiet n region_end p e = refl
+sites_quiet n _ p e = refl

@@ -50,26 +50,7 @@ plain_some (escapes a b) (escapes c d) = refl
 plain_some (macro m b q) (macro n c r) = refl
 plain_some (routine m c os) (routine n d ps) = some_if (bytes_eq m n) _ _
 plain_some (grouping m a xs) (grouping n b ys) = some_if (bytes_eq m n) _ _
-plain_some (declaration x0 x1) (escapes y0 y1) = refl
-plain_some (declaration x0 x1) (macro y0 y1 y2) = refl
-plain_some (declaration x0 x1) (routine y0 y1 y2) = refl
-plain_some (declaration x0 x1) (grouping y0 y1 y2) = refl
-plain_some (escapes x0 x1) (declaration y0 y1) = refl
-plain_some (escapes x0 x1) (macro y0 y1 y2) = refl
-plain_some (escapes x0 x1) (routine y0 y1 y2) = refl
-plain_some (escapes x0 x1) (grouping y0 y1 y2) = refl
-plain_some (macro x0 x1 x2) (declaration y0 y1) = refl
-plain_some (macro x0 x1 x2) (escapes y0 y1) = refl
-plain_some (macro x0 x1 x2) (routine y0 y1 y2) = refl
-plain_some (macro x0 x1 x2) (grouping y0 y1 y2) = refl
-plain_some (routine x0 x1 x2) (declaration y0 y1) = refl
-plain_some (routine x0 x1 x2) (escapes y0 y1) = refl
-plain_some (routine x0 x1 x2) (macro y0 y1 y2) = refl
-plain_some (routine x0 x1 x2) (grouping y0 y1 y2) = refl
-plain_some (grouping x0 x1 x2) (declaration y0 y1) = refl
-plain_some (grouping x0 x1 x2) (escapes y0 y1) = refl
-plain_some (grouping x0 x1 x2) (macro y0 y1 y2) = refl
-plain_some (grouping x0 x1 x2) (routine y0 y1 y2) = refl
+plain_some _ _ = refl
 
 plains_some : (xs ys : List Plain) → is_some (differ_plains xs ys) ≡ is_some (differ_plains (map (holed_plain all) xs) (map (holed_plain all) ys))
 plains_some [] [] = refl

@@ -31,11 +31,8 @@ same_order (code.Routine m) (code.Routine n) = refl
 same_order (code.Routine m) (code.Among n l) = refl
 same_order (code.Routine m) (code.Grouping n) = refl
 same_order (code.Among m k) (code.Routine n) = refl
-same_order (code.Among m k) (code.Among n l) = refl
-same_order (code.Among m k) (code.Grouping n) = refl
 same_order (code.Grouping m) (code.Routine n) = refl
-same_order (code.Grouping m) (code.Among n l) = refl
-same_order (code.Grouping m) (code.Grouping n) = refl
+same_order _ _ = refl
 
 pub map_insert_key : (ks : List Item) (k : Item) → map item_of (insert_key owned.cmp-value.it ks k) ≡ insert_key item_cmp (map item_of ks) (item_of k)
 map_insert_key = inserted_by item_of owned.cmp-value.it same_order
@@ -45,11 +42,8 @@ same_ref_order (ref.Routine m) (ref.Routine n) = refl
 same_ref_order (ref.Routine m) (ref.Among n l) = refl
 same_ref_order (ref.Routine m) (ref.Grouping n) = refl
 same_ref_order (ref.Among m k) (ref.Routine n) = refl
-same_ref_order (ref.Among m k) (ref.Among n l) = refl
-same_ref_order (ref.Among m k) (ref.Grouping n) = refl
 same_ref_order (ref.Grouping m) (ref.Routine n) = refl
-same_ref_order (ref.Grouping m) (ref.Among n l) = refl
-same_ref_order (ref.Grouping m) (ref.Grouping n) = refl
+same_ref_order _ _ = refl
 
 pub map_insert_ref : (ks : List ItemRef) (k : ItemRef) → map item_of_ref (insert_key borrowed.cmp-value.it ks k) ≡ insert_key item_cmp (map item_of_ref ks) (item_of_ref k)
 map_insert_ref = inserted_by item_of_ref borrowed.cmp-value.it same_ref_order

@@ -189,18 +189,14 @@ module _ (word : List ℕ) where
 
   edited_keeps : (x : Splice) (cs : List ℕ) (m : Mode) → Keeps (edited_does x cs m)
   edited_keeps splices.Replace cs m s h = replace_keeps cs s h
-  edited_keeps splices.InsertSign cs Forward s h = put_in_keeps true cs s h
   edited_keeps splices.InsertSign cs Backward s h = put_in_keeps false cs s h
-  edited_keeps splices.Insert cs Forward s h = put_in_keeps true cs s h
   edited_keeps splices.Insert cs Backward s h = put_in_keeps false cs s h
   edited_keeps splices.Attach cs Forward s h = put_in_keeps false cs s h
-  edited_keeps splices.Attach cs Backward s h = put_in_keeps true cs s h
+  edited_keeps _ cs _ s h = put_in_keeps true cs s h
 
   named_keeps : (ns : DeclaredNames) (x : Naming) (y : List ℕ) (m : Mode) → Keeps (named_does ns x y m)
-  named_keeps ns namings.SetMark y m s h = h
-  named_keeps ns namings.Set y m s h = h
-  named_keeps ns namings.Unset y m s h = h
   named_keeps ns namings.Arrow y m s h = keep_keeps (place_of (ns kinds.Strings) y) s h
+  named_keeps ns _ y m s h = h
 
   -- ---- moving and testing
 

@@ -6,7 +6,7 @@ use Rattle.std.specs.Str.{bytes_eq}
 use Rattle.std.proofs.lemmas.Bool.{eq-eqb, true≢false, or_cases, or_left, or_right}
 use Rattle.std.proofs.Math.Path.{fun_ext}
 use Rattle.sbl_ast.specs.Order.{ItemInMode, in_order}
-use Rattle.sbl_ast.specs.Tree.{Argument, written_out, by_name, Term, term, Plain, declaration, escapes, macro, routine, grouping}
+use Rattle.sbl_ast.specs.Tree.{Argument, written_out, by_name, Term, term, Plain, grouping}
 use Rattle.sbl_resolver.specs.Checks.{WellDeclared}
 use Rattle.sbl_resolver.specs.Laws.{WellDeclaredPasses}
 use Rattle.sbl_semantics.specs.Items.{is_member}
@@ -88,10 +88,7 @@ module _ {X : Type 0} (picked : X → Part' → Bool) (xs : List X) where
   closed_at : (x : Plain) → ((k : X) → IsClosedAt (picked k) x) → IsClosedAt one_picks x
   closed_at (grouping n a ts) each =
       λ h. any_then (λ k. built_on (λ m. picked k (Grouping m)) a ts) (λ k. picked k (Grouping n)) each xs (sym (built_on_any (λ k m. picked k (Grouping m)) xs a ts) ∙ h)
-  closed_at (declaration k ns) each = tt
-  closed_at (escapes a b) each = tt
-  closed_at (macro n b q) each = tt
-  closed_at (routine n c os) each = tt
+  closed_at _ each = tt
 
   closed_in : (is : List ItemInMode) → ((k : X) → AllByRecursion (λ x. IsClosedAt (picked k) x.plain) is) → AllByRecursion (λ x. IsClosedAt one_picks x.plain) is
   closed_in [] each = tt
@@ -151,10 +148,7 @@ module _ {X : Type 0} (xs : List X) where
       ∙ ap (λ (b : Bool). list_any (λ x. is_member (of x) n) xs || b) (sym (any_and (λ x. built_on (is_member (of x)) a ts) (bytes_eq r n) xs))
       ∙ sym (any_or (λ x. is_member (of x) n) (λ x. built_on (is_member (of x)) a ts && bytes_eq r n) xs)
       ∙ ap (λ (p : X → Bool). list_any p xs) (fun_ext (λ x. sym (if_built (built_on (is_member (of x)) a ts) r n (of x))))
-  item_of_several (declaration k ns) ms of are n = are n
-  item_of_several (escapes a b) ms of are n = are n
-  item_of_several (macro m b q) ms of are n = are n
-  item_of_several (routine m c os) ms of are n = are n
+  item_of_several _ ms of are n = are n
 
   built_of : (is : List ItemInMode) (ms : List (List ℕ)) (of : X → List (List ℕ)) → AreOf ms of → AreOf (built_after is ms) (λ x. built_after is (of x))
   built_of [] ms of are = are

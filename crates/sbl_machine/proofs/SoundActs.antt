@@ -109,14 +109,7 @@ module _ (ns : Names) (known : DeclaredNames) (agree : Agree ns known) (classes 
 
   simple_same : (x : Simple) (n : Option Among) → does_as (simple_by ns x n) (simple_does (parts.search_ahead known class call' n) x)
   simple_same simples.Substring n m s = ahead_same n m s
-  simple_same simples.LeftBracket n m s = refl
-  simple_same simples.RightBracket n m s = refl
-  simple_same simples.Next n m s = refl
-  simple_same simples.ToLimit n m s = refl
-  simple_same simples.AtLimit n m s = refl
-  simple_same simples.Delete n m s = refl
-  simple_same simples.True n m s = refl
-  simple_same simples.False n m s = refl
+  simple_same _ n m s = refl
 
   prefix_same : (x : Prefix) (c : programs.Node) (d : Doing) → run.act classes call c ≡ d → does_as (after_prefix x c) (prefixed_does x (pay_first d))
   prefix_same prefixes.Not c d h m s = ap (λ d. prefixed_does prefixes.Not (pay_first d) m s) h

@@ -48,18 +48,11 @@ use Rattle.sbl_ast.specs.declared.mode.Mode.TheVariants.{Forward, Backward}
 
 pub changed_same : (o : Assignment) → changed_value (change_of o) ≡ meaning.assigned_value o
 changed_same assignments.Equals = refl
-changed_same assignments.Plus = refl
-changed_same assignments.Minus = refl
-changed_same assignments.Times = refl
-changed_same assignments.Over = refl
+changed_same _ = refl
 
 pub holds_same : (o : Comparison) → holds (relation_of o) ≡ meaning.is_so o
 holds_same comparisons.Same = refl
-holds_same comparisons.Differs = refl
-holds_same comparisons.Less = refl
-holds_same comparisons.AtMost = refl
-holds_same comparisons.Greater = refl
-holds_same comparisons.AtLeast = refl
+holds_same _ = refl
 
 -- the names of a script, in both
 pub record Agree (ns : Names) (known : DeclaredNames) : Type 0 where
@@ -76,10 +69,7 @@ module _ (ns : Names) (known : DeclaredNames) (agree : Agree ns known) where
 
   constant_same : (c : Constant) (m : Mode) (s : State) → value (constant c) m s ≡ meaning.constant_worth known c m s
   constant_same constants.MaxInt m s = refl
-  constant_same constants.MinInt m s = refl
-  constant_same constants.Cursor m s = refl
-  constant_same constants.Limit m s = refl
-  constant_same constants.Len m s = refl
+  constant_same _ m s = refl
 
   added_same : (o : Additive) (a b : programs.Arithmetic) (m : Mode) (s : State) (v w : Value) → value a m s ≡ v → value b m s ≡ w → value (sum_or_difference o a b) m s ≡ meaning.value_of_sum known o v w
   added_same additives.Plus a b m s v w h k = ap (λ v. meaning.value_of_sum known additives.Plus v (value b m s)) h ∙ ap (λ w. meaning.value_of_sum known additives.Plus v w) k

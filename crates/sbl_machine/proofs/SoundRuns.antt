@@ -104,3 +104,15 @@ ending_same script word limit = sound_by_regions script word limit ∙ sym (endi
 
 pub telling_same : (script : Source) (word : List ℕ) (limit : ℕ) → telling_of (numbered_script script) word limit ≡ meaning.ending_with_events script word limit
 telling_same script word limit = told_by_regions script word limit ∙ sym (telling_is script word limit)
+
+-- the same for a run that begins in a state
+pub same_run : (p : programs.Program) (script : Source) (word : List ℕ) (limit : ℕ) (state : State) → p ≡ numbered_script script → state ≡ start p word limit
+    → run.calls p 32 p.external Forward state ≡ meaning.ending script word limit
+same_run p script word limit state is begun =
+    ap (run.calls p 32 p.external Forward) begun ∙ ap (λ (q : programs.Program). ending_of q word limit) is ∙ ending_same script word limit
+
+pub same_telling : (p : programs.Program) (script : Source) (word : List ℕ) (limit : ℕ) (state told : State) → p ≡ numbered_script script → state ≡ start p word limit
+    → told ≡ record state { events = Some [] } → run.calls p 32 p.external Forward told ≡ meaning.ending_with_events script word limit
+same_telling p script word limit state told is begun tells =
+    ap (run.calls p 32 p.external Forward) (tells ∙ ap (λ (s : State). record s { events = Some [] }) begun)
+    ∙ ap (λ (q : programs.Program). telling_of q word limit) is ∙ telling_same script word limit

@@ -154,10 +154,8 @@ pub compared_same : (o : Comparison) (v w : Value) (s : State) → Same s (compa
 compared_same o v w s = given_same v s _ (λ x. given_same w s _ (λ y. refl))
 
 pub named_same : (ns : DeclaredNames) (x : Naming) (n : List ℕ) (m : Mode) (s : State) → Same s (named_does ns x n m s)
-named_same ns namings.SetMark n m s = refl
-named_same ns namings.Set n m s = refl
-named_same ns namings.Unset n m s = refl
 named_same ns namings.Arrow n m s = keep_same (place_of (ns kinds.Strings) n) s
+named_same ns _ n m s = refl
 
 pub edited_same : (x : Splice) (cs : List ℕ) (m : Mode) (s : State) → Same s (edited_does x cs m s)
 edited_same splices.Replace cs m s = replace_same cs s

@@ -56,18 +56,14 @@ put_in_go right cs k n s l = if_goes k n (nat_le (s.cursor + s.beyond) (length s
 
 pub edited_go : (x : Splice) (cs : List ℕ) (m : Mode) → Steady (edited_does x cs m)
 edited_go splices.Replace cs m k n s l = replace_go cs k n s l
-edited_go splices.InsertSign cs Forward k n s l = put_in_go true cs k n s l
 edited_go splices.InsertSign cs Backward k n s l = put_in_go false cs k n s l
-edited_go splices.Insert cs Forward k n s l = put_in_go true cs k n s l
 edited_go splices.Insert cs Backward k n s l = put_in_go false cs k n s l
 edited_go splices.Attach cs Forward k n s l = put_in_go false cs k n s l
-edited_go splices.Attach cs Backward k n s l = put_in_go true cs k n s l
+edited_go _ cs _ k n s l = put_in_go true cs k n s l
 
 pub named_go : (ns : DeclaredNames) (x : Naming) (y : List ℕ) (m : Mode) → Steady (named_does ns x y m)
-named_go ns namings.SetMark y m k n s l = (l, refl)
-named_go ns namings.Set y m k n s l = (l, refl)
-named_go ns namings.Unset y m k n s l = (l, refl)
 named_go ns namings.Arrow y m k n s l = keep_go (place_of (ns kinds.Strings) y) k n s l
+named_go ns _ y m k n s l = (l, refl)
 
 -- ---- moving and testing
 

@@ -18,7 +18,7 @@ use Rattle.sbl_program.specs.Laws.{AllDiffer, FittingAreMatches, Matches, Stands
 use Rattle.sbl_ast.specs.Order.{ItemInMode, in_order}
 use Rattle.sbl_ast.specs.inside.OrderParts.{in_mode}
 use Rattle.sbl_ast.specs.Tree as trees
-use Rattle.sbl_ast.specs.Tree.{bracket, simple_, literal_, name_, non_, prefixed, counted, move_, named, splice_, setlimit_, assign_, compare_, compare_values_, among_, no_rows, row, no_others, joined, no_starter, starter, bare, group, declaration, escapes, macro, routine, grouping, plain, backward}
+use Rattle.sbl_ast.specs.Tree.{bracket, simple_, literal_, name_, non_, prefixed, counted, move_, named, splice_, setlimit_, assign_, compare_, compare_values_, among_, no_rows, row, no_others, joined, no_starter, starter, bare, group, routine, plain, backward}
 use Rattle.sbl_ast.specs.declared.mode.Mode.{Mode}
 use Rattle.sbl_ast.specs.declared.mode.Mode.TheVariants.{Forward, Backward}
 
@@ -115,10 +115,7 @@ module _ (ns : Names) (first : ℕ) where
 all_in_plain : (ns : Names) (x : trees.Plain) (m : Mode) (fs : List AmongStrings) → EachAmongOfPlain IsSound x → AllDo fs → AllDo (found_plain ns m x fs)
 all_in_plain ns (routine n c os) m fs s a =
     all_in_others ns (length fs) os m (found_command ns (length fs) m c fs) s.1 (all_in ns (length fs) c m fs s.0 a)
-all_in_plain ns (declaration k xs) m fs s a = a
-all_in_plain ns (escapes x y) m fs s a = a
-all_in_plain ns (macro n b q) m fs s a = a
-all_in_plain ns (grouping n x ts) m fs s a = a
+all_in_plain ns _ m fs s a = a
 
 all_after : (ns : Names) (xs : List ItemInMode) (fs : List AmongStrings) → AllByRecursion (λ x. EachAmongOfPlain IsSound x.plain) xs → AllDo fs → AllDo (found_after ns xs fs)
 all_after ns [] fs s a = a

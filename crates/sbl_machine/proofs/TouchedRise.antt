@@ -45,13 +45,9 @@ parts : (x y : Part') → by_parts x y ≡ item_cmp x y
 unfolding kind_of name_of number_of
 parts (Routine m) (Routine n) = then_same (slice_cmp nat_cmp m n)
 parts (Routine m) (Among n l) = refl
-parts (Routine m) (Grouping n) = refl
 parts (Among m k) (Routine n) = refl
-parts (Among m k) (Among n l) = refl
-parts (Among m k) (Grouping n) = refl
-parts (Grouping m) (Routine n) = refl
-parts (Grouping m) (Among n l) = refl
 parts (Grouping m) (Grouping n) = then_same (slice_cmp nat_cmp m n)
+parts _ _ = refl
 
 item_total : IsTotalOrder item_cmp
 item_total =
