@@ -11,7 +11,7 @@ use Rattle.sbl_text.specs.Laws.{PlacesAreOne}
 use Rattle.sbl_ast.specs.Tree.{Item}
 use Rattle.sbl_ast.specs.Texts.{script}
 use Rattle.sbl_ast.specs.Terminal.{Terminal, terminal_of}
-use Rattle.sbl_parser.proofs.Faults.{places_tokens}
+use Rattle.sbl_ast.proofs.PlacedTokens.{places_tokens}
 use Rattle.sbl_parser.proofs.Lexed.{T, text_back}
 use Rattle.sbl_parser.specs.Reading.{IsReadAs}
 use Rattle.sbl_parser.specs.Laws.{TreesAreOne}

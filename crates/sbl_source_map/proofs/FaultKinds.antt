@@ -33,45 +33,11 @@ made_again (fault.Starter item) e = refl
 made_again (fault.RepeatedString item) e = refl
 made_again (fault.EmptyAmong item) e = refl
 made_again (fault.NestedBackwards item) e = refl
-made_again (fault.BadCharacter place) e = cc e
-made_again (fault.UnclosedString place) e = cc e
-made_again (fault.UnclosedComment place) e = cc e
-made_again (fault.UnknownEscape place) e = cc e
-made_again (fault.BadCode place) e = cc e
-made_again (fault.NumberTooLarge place) e = cc e
-made_again (fault.Syntax place) e = cc e
-made_again (fault.TooDeep place) e = cc e
-made_again (fault.OutOfProfile place) e = cc e
-made_again fault.NoExternal e = cc e
-made_again fault.NotUtf8 e = cc e
-made_again fault.ScriptTooLong e = cc e
-made_again fault.OutOfMemory e = cc e
+made_again _ e = cc e
 
 has_kind : (f : ScriptFault) → is_of_token f ≡ nat_lt 0 (kind_of f)
 has_kind (fault.DeclaredTwice item) = refl
-has_kind (fault.Undeclared item) = refl
-has_kind (fault.WrongKind item) = refl
-has_kind (fault.DefinedTwice item) = refl
-has_kind (fault.Undefined item) = refl
-has_kind (fault.WrongMode item) = refl
-has_kind (fault.Substring item) = refl
-has_kind (fault.Starter item) = refl
-has_kind (fault.RepeatedString item) = refl
-has_kind (fault.EmptyAmong item) = refl
-has_kind (fault.NestedBackwards item) = refl
-has_kind (fault.BadCharacter place) = refl
-has_kind (fault.UnclosedString place) = refl
-has_kind (fault.UnclosedComment place) = refl
-has_kind (fault.UnknownEscape place) = refl
-has_kind (fault.BadCode place) = refl
-has_kind (fault.NumberTooLarge place) = refl
-has_kind (fault.Syntax place) = refl
-has_kind (fault.TooDeep place) = refl
-has_kind (fault.OutOfProfile place) = refl
-has_kind fault.NoExternal = refl
-has_kind fault.NotUtf8 = refl
-has_kind fault.ScriptTooLong = refl
-has_kind fault.OutOfMemory = refl
+has_kind _ = refl
 
 both : (a b : Bool) → (a && b) ≡ true → (a ≡ true) × (b ≡ true)
 both true b e = (refl, e)

@@ -1,5 +1,5 @@
 -- The words of a definition, read one after another.
-use Rattle.std.proofs.Common.{◌≡◌, ◌≢◌, ◌⊎◌, inl, inr, ◌∙◌, ◌++◌, ◌-◌, ◌&&◌, ℕ, Bool, true, false, List, [], ◌∷◌, Option, Some, None, Result, Ok, Err, IfOk, MatchOption, length, drop, slice_range, encode_utf8_all, refl, sym, ap, subst, append_assoc, arith}
+use Rattle.std.proofs.Common.{◌≡◌, ◌≢◌, ◌⊎◌, inl, inr, ◌∙◌, ◌++◌, ◌-◌, ℕ, List, [], ◌∷◌, Option, Some, None, Result, Ok, Err, IfOk, MatchOption, length, drop, slice_range, encode_utf8_all, refl, sym, ap, subst, append_assoc, arith}
 use Rattle.std.proofs.lemmas.List.{length-drop, take_all}
 use Rattle.std.proofs.lemmas.Str.{IsCharBoundary-at_seam, encodes-append, encodes-chars, scalars-chars}
 use Rattle.std.proofs.Math.Seq.{drop-append_seam}
@@ -14,6 +14,7 @@ use Rattle.sbl_text.specs.declared.fault.ScriptFault.TheVariants as fault
 use Rattle.sbl_text.proofs.Lists.{bytes_append}
 use Rattle.sbl_source_map.specs.Heads.{Follows}
 use Rattle.sbl_source_map.specs.HeadReader.{IsAfterWord, IsEndOf}
+use Rattle.sbl_source_map.proofs.Rests.{rest_scalars}
 
 fresh : (r t : Reading) (result : Result (Option Token) ScriptFault) → r.fault ≡ None → IsNext r t result → IsFresh r t result
 fresh r t result none next = subst (λ (f : Option ScriptFault). IsAnswer f r t result) none next
@@ -103,14 +104,6 @@ three text r s t u a b d end next (Some n) is so then last =
     )
 
 -- ---- the text after them
-
-and_right : (a b : Bool) → (a && b) ≡ true → b ≡ true
-and_right true b e = e
-and_right false b e = let no : false ≡ true = e in absurd (cc no)
-
-rest_scalars : (x y : List ℕ) → scalars (x ++ y) ≡ true → scalars y ≡ true
-rest_scalars [] y e = e
-rest_scalars (c ∷ x) y e = rest_scalars x y (and_right _ _ e)
 
 -- the bytes of a text in two parts
 bytes_are : (text before rest : List ℕ) → IsUtf8 text → chars text ≡ before ++ rest → text ≡ encode_utf8_all before ++ encode_utf8_all rest

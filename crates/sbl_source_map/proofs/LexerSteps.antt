@@ -6,16 +6,18 @@ use Rattle.sbl_token.specs.declared.token.Token.{Token}
 use Rattle.sbl_token.specs.declared.token.Value.{Value}
 use Rattle.sbl_token.specs.declared.words.Word.{Word}
 use Rattle.sbl_token.specs.declared.words.Word.TheVariants as words
-use Rattle.sbl_token.specs.Lexemes.{lexeme_by, word}
+use Rattle.sbl_token.specs.Lexemes.{lexeme_by, lexeme_of, word}
 use Rattle.sbl_text.specs.Directives.{Defining, Directives, after, defined_as, start, value_for_macro}
 use Rattle.sbl_text.specs.inside.DirectiveParts.{defined_by}
 use Rattle.sbl_text.specs.Escapes.{InForce}
+use Rattle.sbl_text.specs.declared.escapes.Inserts.{Inserts}
 use Rattle.sbl_text.specs.Tokens.{Advances, ArePlaced, IsNext, PlacedToken, Reading, Stops, beginning, placed_of}
 use Rattle.sbl_text.specs.declared.fault.ScriptFault.{ScriptFault}
 use Rattle.sbl_text.specs.declared.fault.ScriptFault.TheVariants as fault
 use Rattle.sbl_text.proofs.Lists.{SoFar, all_placed, next_advances, next_shorter, none_yet, over_gaps, still_none, with_next}
 use Rattle.sbl_source_map.specs.FaultRanges.{StopsIn}
 use Rattle.sbl_source_map.specs.LexerStops.{IsStep}
+use Rattle.sbl_source_map.specs.declared.fault_ranges.Step.{Step}
 use Rattle.sbl_source_map.specs.declared.fault_ranges.Step.TheVariants as step
 
 -- ---- the next step
@@ -41,6 +43,10 @@ shorter r t token taken = next_shorter r.text r.state r.rest t.state t.rest toke
 abbrev pub HasRead : List ℕ → Directives → List ℕ → Type 0
 HasRead text s rest = (ts : List Token) × SoFar start text s rest ts
 
+-- the same if a step takes a token
+pub step_shorter : (r t : Reading) (token : Token) (s : Step) → s ≡ step.Next token → IsStep r t s → length t.rest < length r.rest
+step_shorter r t token s is h = shorter r t token (subst (λ (x : Step). IsStep r t x) is h)
+
 pub read_none : (text : List ℕ) (r : Reading) → r ≡ beginning start text → HasRead text r.state r.rest
 read_none text r is = subst (λ (q : Reading). HasRead text q.state q.rest) (sym is) ([], none_yet start text start refl)
 
@@ -50,6 +56,20 @@ read_more text r t token same h taken = (
   with_next start text r.state r.rest t.state t.rest token h.0 h.1
       (subst (λ (b : List ℕ). Advances b r.state r.rest t.state t.rest (Ok (Some token))) same taken.0),
 )
+
+-- a part of a text has been read, and these insert characters are set there
+abbrev pub HasReadTo : List ℕ → Reading → Option Inserts → Type 0
+HasReadTo text r i = (r.text ≡ text) × (r.fault ≡ None) × HasRead text r.state r.rest × (i ≡ r.state.escapes.inserts)
+
+pub step_kept : (text : List ℕ) (r t : Reading) (token : Token) (s : Step) (i j : Option Inserts) → HasReadTo text r i → s ≡ step.Next token → IsStep r t s
+    → t.text ≡ r.text → ((d : Directives) → d.escapes.inserts ≡ i → (after d (lexeme_of token)).escapes.inserts ≡ j) → HasReadTo text t j
+step_kept text r t token s i j so is h same inserts =
+    let taken = subst (λ (x : Step). IsStep r t x) is h in (
+      same ∙ so.0,
+      taken.1,
+      read_more text r t token so.0 so.2 taken,
+      sym (inserts r.state (sym so.3)) ∙ ap (λ (d : Directives). d.escapes.inserts) (sym taken.0.2),
+    )
 
 pub read_all : (text : List ℕ) (r t : Reading) → r.text ≡ text → HasRead text r.state r.rest → IsStep r t step.End → (ts : List PlacedToken) × ArePlaced text ts
 read_all text r t same h last = (
@@ -80,9 +100,6 @@ defined_keeps e (Some m) v = go (value_for_macro m.coding v) where
 
 pub same_inserts : (s : Directives) (k : Kind) (text : List ℕ) (v : Value) → (k ≡ kind.Inserts → ⊥) → (after s (lexeme_by k text v)).escapes.inserts ≡ s.escapes.inserts
 same_inserts s (kind.Word w) text v other = word_keeps s w
-same_inserts s (kind.Sign g) text v other = refl
-same_inserts s kind.Name text v other = refl
-same_inserts s kind.Number text v other = refl
 same_inserts s kind.Literal text v other = defined_keeps s.escapes s.defining _
 same_inserts s kind.Inserts text v other = absurd (other refl)
-same_inserts s kind.MacroName text v other = refl
+same_inserts s _ text v other = refl

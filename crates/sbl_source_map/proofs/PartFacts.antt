@@ -190,6 +190,13 @@ range_in_order (u ∷ ts) t end h e =
     subst (λ (v : Token). (v.start ≤ last_end (placed_of v) (map placed_of ts)) × (last_end (placed_of v) (map placed_of ts) ≤ end)) (some_same u t e)
     (last_in_order 0 (placed_of u) (map placed_of ts) end h)
 
+-- the same for the number at which they end
+pub ends_in_order : (ts : List Token) (t : Token) (us : List Token) (n end : ℕ) → InOrder 0 (map placed_of ts) end → slice_get ts 0 ≡ Some t
+    → us ≡ drop 1 ts → n ≡ last_end (placed_of t) (map placed_of us) → (t.start ≤ n) × (n ≤ end)
+ends_in_order ts t us n end h e others is =
+    let last : n ≡ last_end (placed_of t) (map placed_of (drop 1 ts)) = is ∙ ap (λ (vs : List Token). last_end (placed_of t) (map placed_of vs)) others in
+    subst (λ (m : ℕ). (t.start ≤ m) × (m ≤ end)) (sym last) (range_in_order ts t end h e)
+
 -- ---- the text cut at a part
 
 pub part_found_in_order : (what : Part') (text : List ℕ) (ts found : List PlacedToken) → IsUtf8 text → ArePlaced (chars text) ts → Some found ≡ part_tokens what ts → InOrder 0 found (length text)

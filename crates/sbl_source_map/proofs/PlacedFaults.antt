@@ -27,7 +27,7 @@ use Rattle.sbl_source_map.specs.FaultRanges.{IsEndAt, IsRange, IsRefusedEnd, Sto
 use Rattle.sbl_source_map.specs.LexerStops.{IsStopOf}
 use Rattle.sbl_source_map.specs.declared.fault_ranges.Stop.{Stop}
 
-abbrev is_placed : ScriptFault → Bool
+abbrev pub is_placed : ScriptFault → Bool
 is_placed f = is_some (place_in f)
 
 -- ---- the faults of an insertion
@@ -92,13 +92,13 @@ refusal_of_text s shape.Literal x place f (inner, is, inl (before, rest, ps, par
 refusal_of_text s shape.Literal x place f (inner, is, inr (v, means, none, same)) = ap is_placed same
 refusal_of_text s _ x place f h = absurd h
 
-of_tokens : (s : Directives) (text : List ℕ) (f : ScriptFault) → IsFirstFaultFrom s text f → is_placed f ≡ true
+pub of_tokens : (s : Directives) (text : List ℕ) (f : ScriptFault) → IsFirstFaultFrom s text f → is_placed f ≡ true
 of_tokens s text f (before, rest, ps, t, parts, cut, inl (ends, none, same)) = ap is_placed same ∙ no_piece t.wanted rest (byte_length before)
 of_tokens s text f (before, rest, ps, t, parts, cut, inr (k, x, more, is, piece, h)) = refusal_of_text t k x (byte_length before) f h
 
 -- ---- the faults of the grammar
 
-of_grammar : (w : Text) (ts : List PlacedToken) (end : ℕ) (f : ScriptFault) → IsUnread w ts end f → is_placed f ≡ true
+pub of_grammar : (w : Text) (ts : List PlacedToken) (end : ℕ) (f : ScriptFault) → IsUnread w ts end f → is_placed f ≡ true
 of_grammar w ts end f (inl (place, first, same)) = ap is_placed same
 of_grammar w ts end f (inr (offered, h)) = go h.3 where
   go : (IsSyntaxAt w (lexemes ts) (lexemes h.1) × (f ≡ fault.Syntax (place_of end h.1))) ⊎ (IsTooDeepAt w (lexemes ts) (lexemes h.1) × (f ≡ fault.TooDeep (place_of end h.1))) ⊎ (IsOutOfProfileAt w (lexemes ts) (lexemes h.1) × (f ≡ fault.OutOfProfile (place_of end h.1))) → is_placed f ≡ true

@@ -9,7 +9,7 @@ and_right : (a b : Bool) → (a && b) ≡ true → b ≡ true
 and_right true b e = e
 and_right false b e = let no : false ≡ true = e in absurd (cc no)
 
-rest_scalars : (x y : List ℕ) → scalars (x ++ y) ≡ true → scalars y ≡ true
+pub rest_scalars : (x y : List ℕ) → scalars (x ++ y) ≡ true → scalars y ≡ true
 rest_scalars [] y e = e
 rest_scalars (c ∷ x) y e = rest_scalars x y (and_right _ _ e)
 

@@ -108,25 +108,11 @@ expression_agree e p s o rest h = ap (λ (l : List Occurrence). subjects_of l ++
 
 simple_agree : (x : Simple) (p : Site) (s : List Occurrence) (o : List Bool) (rest : List Terminal) → subjects_of (noted_simple x p s) ++ at o rest ≡ subjects_of s ++ at o (t.simple x ∷ rest)
 simple_agree simples.Substring p s o rest = one substring p s (at o rest)
-simple_agree simples.LeftBracket p s o rest = refl
-simple_agree simples.RightBracket p s o rest = refl
-simple_agree simples.Next p s o rest = refl
-simple_agree simples.ToLimit p s o rest = refl
-simple_agree simples.AtLimit p s o rest = refl
-simple_agree simples.Delete p s o rest = refl
-simple_agree simples.True p s o rest = refl
-simple_agree simples.False p s o rest = refl
+simple_agree _ p s o rest = refl
 
 prefix_agree : (x : Prefix) (p : Site) (s : List Occurrence) (o : List Bool) (rest : List Terminal) → subjects_of (noted_prefix x p s) ++ at o rest ≡ subjects_of s ++ at o (t.prefix x ∷ rest)
 prefix_agree prefixes.Backwards p s o rest = one backwards p s (at o rest)
-prefix_agree prefixes.Not p s o rest = refl
-prefix_agree prefixes.Test p s o rest = refl
-prefix_agree prefixes.Try p s o rest = refl
-prefix_agree prefixes.Do p s o rest = refl
-prefix_agree prefixes.Fail p s o rest = refl
-prefix_agree prefixes.Repeat p s o rest = refl
-prefix_agree prefixes.GoTo p s o rest = refl
-prefix_agree prefixes.GoPast p s o rest = refl
+prefix_agree _ p s o rest = refl
 
 -- a string of an among, and its condition
 entry_agree : (e : Entry) (k : ℕ) (p : Site) (s : List Occurrence) (o : List Bool) (rest : List Terminal) → subjects_of (noted_entry e k p s) ++ at (true ∷ o) rest ≡ subjects_of s ++ at (true ∷ o) (spelled_entry e rest)

@@ -39,31 +39,25 @@ returns-in_default-4 c =
 
 pub returns-in-Some-5 : goal.returns-in-Some-5
 returns-in-Some-5 c =
-    let items = c.in-Some-3.items.items in
-    let n = c.in-Some-4.number in
-    let f = c.in-Some-4.fault in
     let text = rw c.in-Some.is at c.text_of.ensures in
     let cut = rw c.in-Some-2.is at c.in_ok-tokens.ensures in
     let tree = rw c.in-Some-3.is at c.in_ok-items.ensures in
     let first = rw c.in-Some-4.is at c.in_ok-number.ensures in
     let range = sym c.in-Some-5.is ∙ c.in_ok-begin.ensures in
-    place_is c.args.text.now (map placed_of c.deref.result.now) (view_items items) n c.in-Some-5.begin c.in-Some-5.end f
-    (is_read c.args.text.now c.in-Some.text.now c.in-Some-2.tokens.items c.deref.result.now (view_items items) text cut c.deref.ensures.value tree)
-    (subst (λ (xs : List Item). IsFirstAfter (occurrences_of (view_items xs)) n f) c.deref-2.ensures.value first)
-    (range ∙ ap (λ (xs : List Token). range_at n (subject_tokens (map placed_of xs))) (c.deref-3.ensures.value ∙ sym c.deref.ensures.value))
+    place_is c.args.text.now (map placed_of c.deref.result.now) (view_items c.in-Some-3.items.items) c.in-Some-4.number c.in-Some-5.begin c.in-Some-5.end c.in-Some-4.fault
+    (is_read c.args.text.now c.in-Some.text.now c.in-Some-2.tokens.items c.deref.result.now (view_items c.in-Some-3.items.items) text cut c.deref.ensures.value tree)
+    (subst (λ (xs : List Item). IsFirstAfter (occurrences_of (view_items xs)) c.in-Some-4.number c.in-Some-4.fault) c.deref-2.ensures.value first)
+    (range ∙ ap (λ (xs : List Token). range_at c.in-Some-4.number (subject_tokens (map placed_of xs))) (c.deref-3.ensures.value ∙ sym c.deref.ensures.value))
 
 pub returns : goal.returns
 returns c =
-    let items = c.in-Some-3.items.items in
-    let n = c.in-Some-4.number in
-    let f = c.in-Some-4.fault in
     let text = rw c.in-Some.is at c.text_of.ensures in
     let cut = rw c.in-Some-2.is at c.in_ok-tokens.ensures in
     let tree = rw c.in-Some-3.is at c.in_ok-items.ensures in
     let first = rw c.in-Some-4.is at c.in_ok-number.ensures in
     let range = sym c.in-None.is ∙ c.in_ok-begin.ensures in
     absurd
-    (none_is_never c.args.text.now (map placed_of c.deref.result.now) (view_items items) n f
-    (is_read c.args.text.now c.in-Some.text.now c.in-Some-2.tokens.items c.deref.result.now (view_items items) text cut c.deref.ensures.value tree)
-    (subst (λ (xs : List Item). IsFirstAfter (occurrences_of (view_items xs)) n f) c.deref-2.ensures.value first)
-    (range ∙ ap (λ (xs : List Token). range_at n (subject_tokens (map placed_of xs))) (c.deref-3.ensures.value ∙ sym c.deref.ensures.value)))
+    (none_is_never c.args.text.now (map placed_of c.deref.result.now) (view_items c.in-Some-3.items.items) c.in-Some-4.number c.in-Some-4.fault
+    (is_read c.args.text.now c.in-Some.text.now c.in-Some-2.tokens.items c.deref.result.now (view_items c.in-Some-3.items.items) text cut c.deref.ensures.value tree)
+    (subst (λ (xs : List Item). IsFirstAfter (occurrences_of (view_items xs)) c.in-Some-4.number c.in-Some-4.fault) c.deref-2.ensures.value first)
+    (range ∙ ap (λ (xs : List Token). range_at c.in-Some-4.number (subject_tokens (map placed_of xs))) (c.deref-3.ensures.value ∙ sym c.deref.ensures.value)))

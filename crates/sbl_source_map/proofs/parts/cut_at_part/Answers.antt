@@ -10,32 +10,26 @@ use Rattle.sbl_source_map.proofs.parts.cut_at_part.Goals as goal
 
 pub cut_at_tokens-requires : goal.cut_at_tokens-requires
 cut_at_tokens-requires c =
-    let text = c.args.text.now in
     let ts = map placed_of c.deref.result.now in
     let found = map placed_of c.in-Some-part_tokens.found.now in
-    let cut = rw c.in-Some.is at c.in_ok-tokens.ensures in
-    let placed : ArePlaced (chars text) ts = subst (λ (xs : List Token). ArePlaced (chars text) (map placed_of xs)) (sym c.deref.ensures.value) cut in
+    let placed : ArePlaced (chars c.args.text.now) ts = subst (λ (xs : List Token). ArePlaced (chars c.args.text.now) (map placed_of xs)) (sym c.deref.ensures.value) (rw c.in-Some.is at c.in_ok-tokens.ensures) in
     let is : Some found ≡ part_tokens (view_part c.args.part) ts = search rules in
-    let bytes : c.as_bytes.result.now ≡ text = search rules in
-    subst (λ (bs : List ℕ). InOrder 0 found (length bs)) (sym bytes) (part_found_in_order (view_part c.args.part) text ts found c.utf8.text placed is)
+    let bytes : c.as_bytes.result.now ≡ c.args.text.now = search rules in
+    subst (λ (bs : List ℕ). InOrder 0 found (length bs)) (sym bytes) (part_found_in_order (view_part c.args.part) c.args.text.now ts found c.utf8.text placed is)
 
 pub returns-in-Some-part_tokens-clause-part : goal.returns-in-Some-part_tokens-clause-part
 returns-in-Some-part_tokens-clause-part c =
-    let text = c.args.text.now in
     let ts = map placed_of c.deref.result.now in
     let found = map placed_of c.in-Some-part_tokens.found.now in
-    let cut = rw c.in-Some.is at c.in_ok-tokens.ensures in
-    let placed : ArePlaced (chars text) ts = subst (λ (xs : List Token). ArePlaced (chars text) (map placed_of xs)) (sym c.deref.ensures.value) cut in
+    let placed : ArePlaced (chars c.args.text.now) ts = subst (λ (xs : List Token). ArePlaced (chars c.args.text.now) (map placed_of xs)) (sym c.deref.ensures.value) (rw c.in-Some.is at c.in_ok-tokens.ensures) in
     let is : Some found ≡ part_tokens (view_part c.args.part) ts = search rules in
-    let bytes : c.as_bytes.result.now ≡ text = search rules in
-    cut_at_found (view_part c.args.part) text ts found c.cut_at_tokens.result placed is
+    let bytes : c.as_bytes.result.now ≡ c.args.text.now = search rules in
+    cut_at_found (view_part c.args.part) c.args.text.now ts found c.cut_at_tokens.result placed is
     (subst (λ (bs : List ℕ). IsCutAtRange bs (range_of found) c.cut_at_tokens.result) bytes c.cut_at_tokens.ensures)
 
 pub returns-clause-part : goal.returns-clause-part
 returns-clause-part c =
-    let text = c.args.text.now in
     let ts = map placed_of c.deref.result.now in
-    let cut = rw c.in-Some.is at c.in_ok-tokens.ensures in
-    let placed : ArePlaced (chars text) ts = subst (λ (xs : List Token). ArePlaced (chars text) (map placed_of xs)) (sym c.deref.ensures.value) cut in
+    let placed : ArePlaced (chars c.args.text.now) ts = subst (λ (xs : List Token). ArePlaced (chars c.args.text.now) (map placed_of xs)) (sym c.deref.ensures.value) (rw c.in-Some.is at c.in_ok-tokens.ensures) in
     let none : None ≡ part_tokens (view_part c.args.part) ts = search rules in
-    not_cut (view_part c.args.part) text ts placed none
+    not_cut (view_part c.args.part) c.args.text.now ts placed none
