@@ -12,7 +12,7 @@ use Rattle.sbl_ast.specs.declared.mode.Mode.TheVariants.{Backward}
 use Rattle.sbl_ast.specs.Counts.{count_in_among}
 use Rattle.sbl_ast.specs.Order.{ItemInMode, in_order}
 use Rattle.sbl_ast.specs.inside.OrderParts.{in_mode}
-use Rattle.sbl_ast.specs.Tree.{Argument, Term, Command, Others, Starter, Groups, Plain, declaration, escapes, macro, routine, grouping, Item, plain, backward, among_}
+use Rattle.sbl_ast.specs.Tree.{Argument, Term, Command, Others, Starter, Groups, Plain, routine, grouping, Item, plain, backward, among_}
 use Rattle.sbl_ast.specs.Places.{AtDepth, places, placed_plain, tokens}
 use Rattle.sbl_ast.specs.inside.PlaceParts.{placed_plains}
 use Rattle.sbl_ast.specs.Source.{Source}
@@ -117,20 +117,7 @@ text_by items (Some (routine m c os)) (among n k) = ap (λ (o : Option Text). ok
   go (Some h) = refl
 text_by items (Some (grouping m a ts)) (terms n) = refl
 text_by items None (body n) = refl
-text_by items (Some (declaration d ns)) (body n) = refl
-text_by items (Some (escapes a b)) (body n) = refl
-text_by items (Some (macro m b q)) (body n) = refl
-text_by items (Some (grouping m a ts)) (body n) = refl
-text_by items None (among n k) = refl
-text_by items (Some (declaration d ns)) (among n k) = refl
-text_by items (Some (escapes a b)) (among n k) = refl
-text_by items (Some (macro m b q)) (among n k) = refl
-text_by items (Some (grouping m a ts)) (among n k) = refl
-text_by items None (terms n) = refl
-text_by items (Some (declaration d ns)) (terms n) = refl
-text_by items (Some (escapes a b)) (terms n) = refl
-text_by items (Some (macro m b q)) (terms n) = refl
-text_by items (Some (routine m c os)) (terms n) = refl
+text_by items _ _ = refl
 
 texts_same : (items : List Item) (e : Part') → text_for items e ≡ text_at (home items e)
 texts_same items e = ap (λ (o : Option Plain). text_in o e) (first_same (changes e) items) ∙ text_by items (first_passing (changes e) items) e
@@ -342,20 +329,7 @@ agrees items (terms n) h (Some (grouping m a ts)) at is =
     let same : home_of_terms items n ≡ h = cc in
     subst (Agrees items (terms n)) same (terms_agrees items n m a ts at)
 agrees items (body n) h None at is = absurd cc
-agrees items (body n) h (Some (declaration d ns)) at is = absurd cc
-agrees items (body n) h (Some (escapes a b)) at is = absurd cc
-agrees items (body n) h (Some (macro m b q)) at is = absurd cc
-agrees items (body n) h (Some (grouping m a ts)) at is = absurd cc
-agrees items (among n k) h None at is = absurd cc
-agrees items (among n k) h (Some (declaration d ns)) at is = absurd cc
-agrees items (among n k) h (Some (escapes a b)) at is = absurd cc
-agrees items (among n k) h (Some (macro m b q)) at is = absurd cc
-agrees items (among n k) h (Some (grouping m a ts)) at is = absurd cc
-agrees items (terms n) h None at is = absurd cc
-agrees items (terms n) h (Some (declaration d ns)) at is = absurd cc
-agrees items (terms n) h (Some (escapes a b)) at is = absurd cc
-agrees items (terms n) h (Some (macro m b q)) at is = absurd cc
-agrees items (terms n) h (Some (routine m c os)) at is = absurd cc
+agrees items _ h _ at is = absurd cc
 
 -- ---- edits and their faults
 

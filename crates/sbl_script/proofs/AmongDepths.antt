@@ -12,7 +12,7 @@ use Rattle.sbl_token.specs.declared.words.Word.TheVariants as words
 use Rattle.sbl_token.specs.declared.signs.Sign.TheVariants as signs
 use Rattle.sbl_token.specs.Lexemes.{Lexeme}
 use Rattle.sbl_ast.specs.Symbols as t
-use Rattle.sbl_ast.specs.Tree.{Argument, written_out, by_name, Expression, expression, Sums, no_sums, sum, Product, product, Scales, no_scales, scale, Factor, negated, bracketed, numeral, variable, fixed, length_of, Entry, entry, Command, bracket, simple_, literal_, name_, non_, prefixed, counted, move_, named, splice_, setlimit_, assign_, compare_, compare_values_, among_, Rows, no_rows, row, Others, no_others, joined, Starter, no_starter, starter, Groups, bare, group}
+use Rattle.sbl_ast.specs.Tree.{Argument, written_out, by_name, Expression, expression, Sums, no_sums, sum, Product, product, Scales, no_scales, scale, Factor, negated, bracketed, fixed, length_of, Entry, entry, Command, bracket, simple_, literal_, name_, non_, prefixed, counted, move_, named, splice_, setlimit_, assign_, compare_, compare_values_, among_, Rows, no_rows, row, Others, no_others, joined, Starter, no_starter, starter, Groups, bare, group}
 use Rattle.sbl_ast.specs.View.{RowView}
 use Rattle.sbl_ast.specs.Amongs.{AmongContents, amongs, amongs_of_rows, amongs_of_others, amongs_of_starter, amongs_of_groups, amongs_of_body, nth_held, put_in_body}
 use Rattle.sbl_ast.specs.Replacement.{is_among}
@@ -61,10 +61,9 @@ mutual
   factor_q : (f : Factor) (d : ℕ) (r : Ps) → D (placed_factor f d r) ≡ D r
   factor_q (negated f) d r = factor_q f (d + 1) r
   factor_q (bracketed x) d r = expression_q x (d + 1) ((lex.sign signs.Close, d + 1) ∷ r)
-  factor_q (numeral n) d r = refl
-  factor_q (variable n) d r = refl
   factor_q (fixed c) d r = depths_after_other (t.constant c) d r (constant_other c)
   factor_q (length_of x) d r = argument_q x d r
+  factor_q _ d r = refl
 
 entry_q : (x : Entry) (d : ℕ) (r : Ps) → D (placed_entry x d r) ≡ D r
 entry_q (entry q None) d r = refl

@@ -1,14 +1,16 @@
 -- What is found of an edit's text.
-use Rattle.std.proofs.Common.{◌≡◌, ◌⊎◌, ◌≤◌, ℕ, Bool, List, length, Option, None, Some, Result, Ok, Err, IfOk, IfErr, inl, inr, sym, ap, subst, ◌∙◌}
+use Rattle.std.proofs.Common.{◌≡◌, ◌⊎◌, ◌≤◌, ℕ, Bool, true, List, length, map, Option, None, Some, Result, Ok, Err, IfOk, IfErr, inl, inr, sym, ap, subst, ◌∙◌}
+use Rattle.std.specs.Prelude.{IsErrAnd}
 use Rattle.std.specs.Str.{IsUtf8, chars}
+use Rattle.sbl_token.specs.declared.token.Token.{Token}
 use Rattle.sbl_text.specs.declared.fault.ScriptFault.{ScriptFault}
 use Rattle.sbl_text.specs.declared.fault.ScriptFault.TheVariants as fault
 use Rattle.sbl_text.specs.Escapes.{InForce}
 use Rattle.sbl_text.specs.Directives.{Directives, start_under}
-use Rattle.sbl_text.specs.Tokens.{PlacedToken, ArePlacedFrom, IsFirstFaultFrom}
+use Rattle.sbl_text.specs.Tokens.{PlacedToken, ArePlacedFrom, IsFirstFaultFrom, placed_of}
 use Rattle.sbl_ast.specs.Amongs.{AmongContents, amongs_of_body, nth_held}
 use Rattle.sbl_ast.specs.Tree.{Argument, Term, Plain, routine, grouping, Item}
-use Rattle.sbl_ast.specs.Texts.{TreeOf}
+use Rattle.sbl_ast.specs.Texts.{Text, TreeOf}
 use Rattle.sbl_ast.specs.View.{RowView}
 use Rattle.sbl_parser.specs.Reading.{IsReadAs}
 use Rattle.sbl_script.specs.declared.edit_fault.EditFault.{EditFault}
@@ -18,9 +20,9 @@ use Rattle.sbl_resolver.specs.Checks.{WellDeclared, fault_of}
 use Rattle.sbl_script.specs.Reading.{HasTokens, IsTextFault, IsUnread, first_left_out, max_script, lexemes}
 use Rattle.sbl_script.specs.Refusals.{Refuses}
 use Rattle.sbl_ast.specs.NamedParts.{Part', Routine as body, Among as among, Grouping as terms}
-use Rattle.sbl_script.specs.Edits.{is_routine_named, is_grouping_named, text_for, IsEditFault}
+use Rattle.sbl_script.specs.Edits.{is_routine_named, is_grouping_named, first_of, text_for, IsEdited, IsEditFault}
 use Rattle.sbl_script.specs.Homes.{Home, IsSubstitutedAt, first_passing, home, home_in, home_of_among, IsFaultAt, home_of_body, home_of_held, home_of_terms}
-use Rattle.sbl_script.proofs.Agreement.{fault_out, missing_in}
+use Rattle.sbl_script.proofs.Agreement.{edited_out, fault_out, first_same, missing_in}
 
 pub tokens_there : (e f : InForce) (text bytes : List ℕ) (ts : List PlacedToken) → e ≡ f → text ≡ bytes → length bytes ≤ max_script → IsUtf8 bytes → ArePlacedFrom (start_under e) (chars text) ts → HasTokens (start_under f) bytes ts
 tokens_there e f text bytes ts same is short utf8 cut = record {
@@ -42,6 +44,13 @@ among_home items n k b h is there = ap (λ (o : Option Plain). home_in items o (
 
 pub terms_home : (items : List Item) (n : List ℕ) (a : Argument) (ts : List Term) → first_passing (is_grouping_named n) items ≡ Some (grouping n a ts) → home items (terms n) ≡ Ok (home_of_terms items n)
 terms_home items n a ts is = ap (λ (o : Option Plain). home_in items o (terms n)) is
+
+-- the same from the first definition that is found
+pub body_there : (items : List Item) (n : List ℕ) (b : RowView) → first_of (is_routine_named n) items ≡ Some (routine n b.0 b.1) → home items (body n) ≡ Ok (home_of_body items n)
+body_there items n b seen = body_home items n b (sym (first_same (is_routine_named n) items) ∙ seen)
+
+pub terms_there : (items : List Item) (n : List ℕ) (a : Argument) (ts : List Term) → first_of (is_grouping_named n) items ≡ Some (grouping n a ts) → home items (terms n) ≡ Ok (home_of_terms items n)
+terms_there items n a ts seen = terms_home items n a ts (sym (first_same (is_grouping_named n) items) ∙ seen)
 
 -- where there is a home nothing is missing
 pub not_missing : {X : Type 0} (items : List Item) (e : Part') (h : Home) (r : Result X EditFault) → home items e ≡ Ok h → (f : EditFault) → text_for items e ≡ Err f → r ≡ Err f
@@ -77,11 +86,45 @@ pub check_told : (s : Source) (h : Home) (text : List ℕ) (ts : List PlacedToke
 check_told s h text ts x f tokens offered read (inl m) = inl m
 check_told s h text ts x f tokens offered read (inr g) = inr (inr (inr (ts, tokens, offered, (x, read, g))))
 
+-- ---- what the code returns of them
+
+-- a fault that is told is returned as the edit's
+pub fault_refused : {X : Type 0} (s : Source) (e : Part') (h : Home) (text : List ℕ) (f : ScriptFault) (r : Result X EditFault) → home s.items e ≡ Ok h → IsErrAnd r (Refuses f)
+    → (f ≡ fault.OutOfMemory) ⊎ IsFaultAt s h text f → IfErr r (Refused s e text)
+fault_refused s e h text f (Ok x) there is told = tt
+fault_refused s e h text f (Err g) there is told = told_as s e h text f g there is told
+
+pub text_refused : {X : Type 0} (s : Source) (e : Part') (h : Home) (text : List ℕ) (f : ScriptFault) (r : Result X EditFault) → home s.items e ≡ Ok h → IsErrAnd r (Refuses f)
+    → (f ≡ fault.OutOfMemory) ⊎ IsTextFault h.state text f → IfErr r (Refused s e text)
+text_refused s e h text f r there is told = fault_refused s e h text f r there is (text_told s h text f told)
+
+-- the tokens that are read, and those that the code hands to the parser
+pub unread_refused : {X : Type 0} (s : Source) (e : Part') (h : Home) (text : List ℕ) (us ts : List Token) (f : ScriptFault) (r : Result X EditFault) → us ≡ ts → home s.items e ≡ Ok h → IsErrAnd r (Refuses f)
+    → HasTokens h.state text (map placed_of ts) → (f ≡ fault.OutOfMemory) ⊎ IsUnread h.text (map placed_of us) (length text) f → IfErr r (Refused s e text)
+unread_refused s e h text us ts f r same there is tokens told =
+    fault_refused s e h text f r there is (unread_told s h text (map placed_of ts) f tokens (subst (λ (xs : List Token). (f ≡ fault.OutOfMemory) ⊎ IsUnread h.text (map placed_of xs) (length text) f) same told))
+
+-- a tree that the parser read of them
+abbrev pub IsTreeOf : (w : Text) → List Token → TreeOf w → Type 0
+IsTreeOf w ts x = (first_left_out (map placed_of ts) ≡ None) × IsReadAs w (lexemes (map placed_of ts)) x
+
+pub tree_of_same : (w : Text) (us ts : List Token) (x : TreeOf w) → us ≡ ts → first_left_out (map placed_of us) ≡ None → IsReadAs w (lexemes (map placed_of us)) x → IsTreeOf w ts x
+tree_of_same w us ts x same offered read = subst (λ (xs : List Token). IsTreeOf w xs x) same (offered, read)
+
+pub check_refused : {X : Type 0} (s : Source) (e : Part') (h : Home) (text : List ℕ) (ts : List Token) (x : TreeOf h.text) (f : ScriptFault) (r : Result X EditFault) → home s.items e ≡ Ok h → IsErrAnd r (Refuses f)
+    → HasTokens h.state text (map placed_of ts) → IsTreeOf h.text ts x → (f ≡ fault.OutOfMemory) ⊎ (fault_of (h.around x) s.external ≡ Some f) → IfErr r (Refused s e text)
+check_refused s e h text ts x f r there is tokens tree told = fault_refused s e h text f r there is (check_told s h text (map placed_of ts) x f tokens tree.0 tree.1 told)
+
 -- ---- the script
 
 pub substitution_of : (s t : Source) (h : Home) (text : List ℕ) (ts : List PlacedToken) (x : TreeOf h.text) (n : Bool) → HasTokens h.state text ts → first_left_out ts ≡ None → IsReadAs h.text (lexemes ts) x
     → t.items ≡ h.around x → t.external ≡ s.external → WellDeclared t.items t.external → h.keeps_count x ≡ n → IsSubstitutedAt s h text n t
 substitution_of s t h text ts x n tokens offered read items external well counted = record { placed = ts; tree = x; tokens = tokens; offered = offered; read = read; items_are = items; external_is = external; well_declared = well; counted = counted }
+
+pub text_edited : (s t : Source) (e : Part') (h : Home) (text : List ℕ) (ts : List Token) (x : TreeOf h.text) → home s.items e ≡ Ok h → HasTokens h.state text (map placed_of ts) → IsTreeOf h.text ts x
+    → t.items ≡ h.around x → t.external ≡ s.external → WellDeclared t.items t.external → h.keeps_count x ≡ true → IsEdited s e text t
+text_edited s t e h text ts x there tokens tree items external well counted =
+    edited_out s e text t (h, there, substitution_of s t h text (map placed_of ts) x true tokens tree.0 tree.1 items external well counted)
 
 -- ---- results
 

@@ -9,7 +9,7 @@ use Rattle.sbl_ast.specs.declared.tree.Grouping as declared-grouping
 use Rattle.sbl_ast.specs.declared.tree.RowOfCommands.{RowOfCommands as Row}
 use Rattle.sbl_ast.specs.declared.tree.Plain as declared
 use Rattle.sbl_ast.specs.declared.tree.Plain.TheVariants as plains
-use Rattle.sbl_ast.specs.Tree.{Command, Others, Plain, declaration, escapes, macro, routine, grouping, Item, plain, backward}
+use Rattle.sbl_ast.specs.Tree.{Command, Others, Plain, routine, grouping, Item, plain, backward}
 use Rattle.sbl_ast.specs.Tree as trees
 use Rattle.sbl_ast.specs.View.{view_plain}
 use Rattle.sbl_script.specs.Edits.{is_routine_named, is_grouping_named}
@@ -46,17 +46,11 @@ same_name n = (bytes_eq-Decides n n).1 refl
 
 pub routine_is : (n : List ℕ) (x : Plain) → is_routine_named n x ≡ true → (c : Command) × (os : Others) × (x ≡ routine n c os)
 routine_is n (routine m c os) h = (c, os, ap (λ (z : List ℕ). routine z c os) (sym ((bytes_eq-Decides n m).0 h)))
-routine_is n (declaration k ns) h = absurd cc
-routine_is n (escapes a b) h = absurd cc
-routine_is n (macro m b q) h = absurd cc
-routine_is n (grouping m a ts) h = absurd cc
+routine_is n _ h = absurd cc
 
 pub grouping_is : (n : List ℕ) (x : Plain) → is_grouping_named n x ≡ true → (a : trees.Argument) × (ts : List trees.Term) × (x ≡ grouping n a ts)
 grouping_is n (grouping m a ts) h = (a, ts, ap (λ (z : List ℕ). grouping z a ts) (sym ((bytes_eq-Decides n m).0 h)))
-grouping_is n (declaration k ns) h = absurd cc
-grouping_is n (escapes a b) h = absurd cc
-grouping_is n (macro m b q) h = absurd cc
-grouping_is n (routine m c os) h = absurd cc
+grouping_is n _ h = absurd cc
 
 -- what is found under a name has that name
 pub routine_found : (n : List ℕ) (items : List Item) (m : List ℕ) (c : Command) (os : Others) → first_passing (is_routine_named n) items ≡ Some (routine m c os) → first_passing (is_routine_named n) items ≡ Some (routine n c os)
@@ -68,14 +62,8 @@ grouping_found n items m a ts e = e ∙ ap (λ (z : List ℕ). Some (grouping z 
 -- and is of that kind
 pub no_other_routine : (n : List ℕ) (items : List Item) (x : declared.Plain) → ((m : String Global) (b : Row) → x ≡ plains.Routine m b → ⊥) → first_passing (is_routine_named n) items ≡ Some (view_plain x) → ⊥
 no_other_routine n items (plains.Routine m b) h e = h m b refl
-no_other_routine n items (plains.Declaration k ns) h e = let no : false ≡ true = found_is (is_routine_named n) items _ e in absurd cc
-no_other_routine n items (plains.StringEscapes a b) h e = let no : false ≡ true = found_is (is_routine_named n) items _ e in absurd cc
-no_other_routine n items (plains.StringDef m b l) h e = let no : false ≡ true = found_is (is_routine_named n) items _ e in absurd cc
-no_other_routine n items (plains.Grouping g) h e = let no : false ≡ true = found_is (is_routine_named n) items _ e in absurd cc
+no_other_routine n items _ h e = let no : false ≡ true = found_is (is_routine_named n) items _ e in absurd cc
 
 pub no_other_grouping : (n : List ℕ) (items : List Item) (x : declared.Plain) → ((g : declared-grouping.Grouping) → x ≡ plains.Grouping g → ⊥) → first_passing (is_grouping_named n) items ≡ Some (view_plain x) → ⊥
 no_other_grouping n items (plains.Grouping g) h e = h g refl
-no_other_grouping n items (plains.Declaration k ns) h e = let no : false ≡ true = found_is (is_grouping_named n) items _ e in absurd cc
-no_other_grouping n items (plains.StringEscapes a b) h e = let no : false ≡ true = found_is (is_grouping_named n) items _ e in absurd cc
-no_other_grouping n items (plains.StringDef m b l) h e = let no : false ≡ true = found_is (is_grouping_named n) items _ e in absurd cc
-no_other_grouping n items (plains.Routine m b) h e = let no : false ≡ true = found_is (is_grouping_named n) items _ e in absurd cc
+no_other_grouping n items _ h e = let no : false ≡ true = found_is (is_grouping_named n) items _ e in absurd cc

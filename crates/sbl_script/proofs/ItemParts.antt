@@ -6,7 +6,7 @@ use Rattle.std.specs.Str.{bytes_eq}
 use Rattle.std.proofs.lemmas.Slice.Eq.{bytes_eq-Decides}
 use Rattle.sbl_ast.specs.declared.mode.Mode.{Mode}
 use Rattle.sbl_ast.specs.declared.mode.Mode.TheVariants.{Forward, Backward}
-use Rattle.sbl_ast.specs.Tree.{Plain, declaration, escapes, macro, routine, grouping, Item, plain, backward}
+use Rattle.sbl_ast.specs.Tree.{Plain, routine, grouping, Item, plain, backward}
 use Rattle.sbl_ast.specs.Order.{ItemInMode, in_order}
 use Rattle.sbl_ast.specs.inside.OrderParts.{in_mode}
 use Rattle.sbl_resolver.specs.Bodies.{body_in}
@@ -111,26 +111,12 @@ routine_stays n x (routine r c os) (routine m b qs) is e f =
       go : (k : Bool) → is_some (cond k (Some (b, qs)) (body_in x is)) ≡ is_some (cond k (Some (c, os)) (body_in x is))
       go true = refl
       go false = refl
-routine_stays n x (declaration k ns) y is e f = absurd cc
-routine_stays n x (escapes k ns) y is e f = absurd cc
-routine_stays n x (macro k ns q) y is e f = absurd cc
-routine_stays n x (grouping k a ts) y is e f = absurd cc
-routine_stays n x (routine r c os) (declaration k ns) is e f = absurd cc
-routine_stays n x (routine r c os) (escapes k ns) is e f = absurd cc
-routine_stays n x (routine r c os) (macro k ns q) is e f = absurd cc
-routine_stays n x (routine r c os) (grouping k a ts) is e f = absurd cc
+routine_stays n x _ _ is e f = absurd cc
 
 -- one grouping for another
 grouping_stays : (n x : List ℕ) (z y : Plain) (is : List Item) → is_grouping_named n z ≡ true → is_grouping_named n y ≡ true → is_some (body_in x (plain y ∷ is)) ≡ is_some (body_in x (plain z ∷ is))
 grouping_stays n x (grouping r c os) (grouping m b qs) is e f = refl
-grouping_stays n x (declaration k ns) y is e f = absurd cc
-grouping_stays n x (escapes k ns) y is e f = absurd cc
-grouping_stays n x (macro k ns q) y is e f = absurd cc
-grouping_stays n x (routine k a ts) y is e f = absurd cc
-grouping_stays n x (grouping r c os) (declaration k ns) is e f = absurd cc
-grouping_stays n x (grouping r c os) (escapes k ns) is e f = absurd cc
-grouping_stays n x (grouping r c os) (macro k ns q) is e f = absurd cc
-grouping_stays n x (grouping r c os) (routine k a ts) is e f = absurd cc
+grouping_stays n x _ _ is e f = absurd cc
 
 -- one definition for another that the same edit changes
 body_stays : (d : Part') (x : List ℕ) (z y : Plain) (is : List Item) → changes d z ≡ true → changes d y ≡ true → is_some (body_in x (plain y ∷ is)) ≡ is_some (body_in x (plain z ∷ is))
@@ -144,10 +130,7 @@ body_after x (routine r c os) is js h = go (bytes_eq x r) where
   go : (k : Bool) → is_some (cond k (Some (c, os)) (body_in x is)) ≡ is_some (cond k (Some (c, os)) (body_in x js))
   go true = refl
   go false = h
-body_after x (declaration k ns) is js h = h
-body_after x (escapes k ns) is js h = h
-body_after x (macro k ns q) is js h = h
-body_after x (grouping k a ts) is js h = h
+body_after x _ is js h = h
 
 module _ (d : Part') (y : Plain) (new : changes d y ≡ true) where
   abbrev p : Plain → Bool

@@ -36,7 +36,7 @@ use Rattle.sbl_ast.specs.Spelled.{argument_terminal, spelled_expression, spelled
 use Rattle.sbl_ast.specs.Places.{lexemes_of}
 use Rattle.sbl_ast.specs.Texts.{script}
 use Rattle.sbl_ast.proofs.Lexed.{text_lexed}
-use Rattle.sbl_parser.proofs.Faults.{places_tokens}
+use Rattle.sbl_ast.proofs.PlacedTokens.{places_tokens}
 use Rattle.sbl_parser.specs.Profile.{is_left_out}
 
 abbrev Ts : Type 0
@@ -56,92 +56,59 @@ past x ts h = rw h refl
 
 offered_declaration : (x : DeclarationKind) → IsOffered (t.declares x)
 offered_declaration declarations.Booleans = refl
-offered_declaration declarations.Externals = refl
-offered_declaration declarations.Groupings = refl
-offered_declaration declarations.Integers = refl
-offered_declaration declarations.Routines = refl
-offered_declaration declarations.Strings = refl
+offered_declaration _ = refl
 
 offered_base : (x : Base) → IsOffered (t.base x)
 offered_base bases.Decimal = refl
-offered_base bases.Hex = refl
+offered_base _ = refl
 
 joining : (x : Joiner) → IsOffered (t.joiner x)
 joining joiners.And = refl
-joining joiners.Or = refl
+joining _ = refl
 
 simply : (x : Simple) → IsOffered (t.simple x)
 simply simples.AtLimit = refl
-simply simples.Delete = refl
-simply simples.False = refl
-simply simples.Next = refl
-simply simples.Substring = refl
-simply simples.ToLimit = refl
-simply simples.True = refl
-simply simples.LeftBracket = refl
-simply simples.RightBracket = refl
+simply _ = refl
 
 before : (x : Prefix) → IsOffered (t.prefix x)
 before prefixes.Backwards = refl
-before prefixes.Do = refl
-before prefixes.Fail = refl
-before prefixes.GoPast = refl
-before prefixes.GoTo = refl
-before prefixes.Not = refl
-before prefixes.Repeat = refl
-before prefixes.Test = refl
-before prefixes.Try = refl
+before _ = refl
 
 counting : (x : Count) → IsOffered (t.count x)
 counting counts.AtLeast = refl
-counting counts.Loop = refl
+counting _ = refl
 
 moving : (x : Move) → IsOffered (t.move x)
 moving moves.AtMark = refl
-moving moves.Hop = refl
-moving moves.ToMark = refl
+moving _ = refl
 
 naming_ : (x : Naming) → IsOffered (t.naming x)
 naming_ namings.Set = refl
-naming_ namings.SetMark = refl
-naming_ namings.Unset = refl
-naming_ namings.Arrow = refl
+naming_ _ = refl
 
 splicing : (x : Splice) → IsOffered (t.edit x)
 splicing splices.Attach = refl
-splicing splices.Insert = refl
-splicing splices.Replace = refl
-splicing splices.InsertSign = refl
+splicing _ = refl
 
 adding : (x : Additive) → IsOffered (t.additive x)
 adding additives.Plus = refl
-adding additives.Minus = refl
+adding _ = refl
 
 scaling : (x : Multiplicative) → IsOffered (t.multiplicative x)
 scaling multiplicatives.Times = refl
-scaling multiplicatives.Over = refl
+scaling _ = refl
 
 assigning : (x : Assignment) → IsOffered (t.assigns x)
 assigning assignments.Equals = refl
-assigning assignments.Plus = refl
-assigning assignments.Minus = refl
-assigning assignments.Times = refl
-assigning assignments.Over = refl
+assigning _ = refl
 
 comparing : (x : Comparison) → IsOffered (t.compares x)
 comparing comparisons.Less = refl
-comparing comparisons.Greater = refl
-comparing comparisons.Same = refl
-comparing comparisons.Differs = refl
-comparing comparisons.AtMost = refl
-comparing comparisons.AtLeast = refl
+comparing _ = refl
 
 standing : (x : Constant) → IsOffered (t.constant x)
 standing constants.Cursor = refl
-standing constants.Len = refl
-standing constants.Limit = refl
-standing constants.MaxInt = refl
-standing constants.MinInt = refl
+standing _ = refl
 
 arguing : (a : Argument) → IsOffered (argument_terminal a)
 arguing (written_out q) = refl

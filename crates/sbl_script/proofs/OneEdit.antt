@@ -93,11 +93,7 @@ edit_fault_is_one k s e text (edits.Script f) (edits.Script g) a b =
     let same = ok_one (home s.items e) a.0 b.0 a.1 b.1 in
     ap edits.Script (fault_is_one k a.0.text a.0.state a.0.around s.external text f g a.2 (subst (λ (z : Home). IsFaultAt s z text g) same b.2))
 edit_fault_is_one k s e text edits.OutOfMemory g a b = absurd a
-edit_fault_is_one k s e text edits.NoRoutine edits.OutOfMemory a b = absurd b
-edit_fault_is_one k s e text edits.NoGrouping edits.OutOfMemory a b = absurd b
-edit_fault_is_one k s e text edits.NoAmong edits.OutOfMemory a b = absurd b
-edit_fault_is_one k s e text edits.AmongCount edits.OutOfMemory a b = absurd b
-edit_fault_is_one k s e text (edits.Script f) edits.OutOfMemory a b = absurd b
+edit_fault_is_one k s e text _ edits.OutOfMemory a b = absurd b
 
 pub edit_or_fault : Facts → (s : Source) (e : Part') (text : List ℕ) (t : Source) (f : EditFault) → IsEditedAt s e text t → IsEditFaultAt s e text f → ⊥
 edit_or_fault k s e text t edits.NoRoutine a b = ok_or_err (home s.items e) a.0 edits.NoRoutine a.1 b

@@ -7,7 +7,7 @@ use Rattle.sbl_text.specs.declared.fault.ScriptFault.{ScriptFault}
 use Rattle.sbl_text.specs.declared.fault.ScriptFault.TheVariants as fault
 use Rattle.sbl_text.specs.Tokens.{PlacedToken}
 use Rattle.sbl_ast.specs.Order.{in_order}
-use Rattle.sbl_ast.specs.Tree.{Plain, declaration, escapes, macro, routine, grouping, Item}
+use Rattle.sbl_ast.specs.Tree.{Plain, routine, grouping, Item}
 use Rattle.sbl_ast.specs.Texts.{TreeOf}
 use Rattle.sbl_parser.specs.Reading.{IsReadAs}
 use Rattle.sbl_ast.specs.declared.tree.DeclarationKind.TheVariants as declared_kinds
@@ -406,20 +406,7 @@ place_of items (terms n) h (Some (grouping m a ts)) at is =
     subst (IsPlaced items (terms n)) (home_one (home_in items (Some (grouping m a ts)) (terms n)) (home_of_terms items n) h refl is)
     (λ x. record { item = grouping n x.0 x.1; there = is_there (first_passing (is_grouping_named n) items) (grouping m a ts) at; same = same_name n; is = refl })
 place_of items (body n) h None at is = absurd cc
-place_of items (body n) h (Some (declaration d ns)) at is = absurd cc
-place_of items (body n) h (Some (escapes a b)) at is = absurd cc
-place_of items (body n) h (Some (macro m b q)) at is = absurd cc
-place_of items (body n) h (Some (grouping m a ts)) at is = absurd cc
-place_of items (named.Among n k) h None at is = absurd cc
-place_of items (named.Among n k) h (Some (declaration d ns)) at is = absurd cc
-place_of items (named.Among n k) h (Some (escapes a b)) at is = absurd cc
-place_of items (named.Among n k) h (Some (macro m b q)) at is = absurd cc
-place_of items (named.Among n k) h (Some (grouping m a ts)) at is = absurd cc
-place_of items (terms n) h None at is = absurd cc
-place_of items (terms n) h (Some (declaration d ns)) at is = absurd cc
-place_of items (terms n) h (Some (escapes a b)) at is = absurd cc
-place_of items (terms n) h (Some (macro m b q)) at is = absurd cc
-place_of items (terms n) h (Some (routine m c os)) at is = absurd cc
+place_of items _ h _ at is = absurd cc
 
 -- a check that fails tells the item
 check_tells : (s : Source) (e : Part') (h : Home) (ts : List PlacedToken) (f : ScriptFault) → WellDeclared s.items s.external → home s.items e ≡ Ok h → ((tree : TreeOf h.text) × IsReadAs h.text (lexemes ts) tree × (fault_of (h.around tree) s.external ≡ Some f)) →

@@ -6,7 +6,7 @@ use Rattle.sbl_ast.specs.declared.tree.Simple.{Simple}
 use Rattle.sbl_ast.specs.declared.tree.Simple.TheVariants as simples
 use Rattle.sbl_ast.specs.declared.tree.Prefix.{Prefix}
 use Rattle.sbl_ast.specs.declared.tree.Prefix.TheVariants as prefixes
-use Rattle.sbl_ast.specs.Tree.{Argument, written_out, by_name, Expression, expression, Sums, no_sums, sum, Product, product, Scales, no_scales, scale, Factor, negated, bracketed, numeral, variable, fixed, length_of, Entry, entry, Command, bracket, simple_, literal_, name_, non_, prefixed, counted, move_, named, splice_, setlimit_, assign_, compare_, compare_values_, among_, Rows, no_rows, row, Others, no_others, joined, Starter, no_starter, starter, Groups, bare, group, Term, term, Plain, declaration, escapes, macro, routine, grouping}
+use Rattle.sbl_ast.specs.Tree.{Argument, written_out, by_name, Expression, expression, Sums, no_sums, sum, Product, product, Scales, no_scales, scale, Factor, negated, bracketed, variable, length_of, Entry, entry, Command, bracket, simple_, literal_, name_, non_, prefixed, counted, move_, named, splice_, setlimit_, assign_, compare_, compare_values_, among_, Rows, no_rows, row, Others, no_others, joined, Starter, no_starter, starter, Groups, bare, group, Term, term, Plain, declaration, escapes, macro, routine, grouping}
 use Rattle.sbl_resolver.specs.declared.occurrences.Use.TheVariants as use_as
 use Rattle.sbl_resolver.specs.declared.occurrences.Site.{Site}
 use Rattle.sbl_resolver.specs.Occurrences.{Occurrence, Notice, put, uses, substring, among, string, backwards, region_end, declares, defines_routine, defines_grouping, amongs_in, noted_expression, use_of, noted_entry, noted_entries, is_empty, noted_command, noted_rows, noted_others, noted_groups, noted_plain, noted_name}
@@ -91,14 +91,7 @@ IsOfCommand i m = (m.site.item ≡ i) × (is_quiet m.notice ≡ true)
 
 after_item : (x : Prefix) (p : Site) → (site_after x p).item ≡ p.item
 after_item prefixes.Backwards p = refl
-after_item prefixes.Not p = refl
-after_item prefixes.Test p = refl
-after_item prefixes.Try p = refl
-after_item prefixes.Do p = refl
-after_item prefixes.Fail p = refl
-after_item prefixes.Repeat p = refl
-after_item prefixes.GoTo p = refl
-after_item prefixes.GoPast p = refl
+after_item _ p = refl
 
 module _ (i : ℕ) where
   abbrev Ours : (List Occurrence → List Occurrence) → Type 0
@@ -138,35 +131,20 @@ module _ (i : ℕ) where
     factor_own : (f : Factor) (p : Site) → p.item ≡ i → Ours (λ s. noted_factor f p s)
     factor_own (negated f) p h = factor_own f p h
     factor_own (bracketed e) p h = walked_own e p h
-    factor_own (numeral n) p h = none
     factor_own (variable n) p h = one (uses use_as.Integer n) p h refl
-    factor_own (fixed c) p h = none
     factor_own (length_of a) p h = string_own a p h
+    factor_own _ p h = none
 
   expression_own : (e : Expression) (p : Site) → p.item ≡ i → Ours (λ s. noted_expression e p s)
   expression_own e p h = like (walked_own e p h) (λ s. expression_is e p s)
 
   simple_own : (x : Simple) (p : Site) → p.item ≡ i → Ours (λ s. noted_simple x p s)
   simple_own simples.Substring p h = one substring p h refl
-  simple_own simples.LeftBracket p h = none
-  simple_own simples.RightBracket p h = none
-  simple_own simples.Next p h = none
-  simple_own simples.ToLimit p h = none
-  simple_own simples.AtLimit p h = none
-  simple_own simples.Delete p h = none
-  simple_own simples.True p h = none
-  simple_own simples.False p h = none
+  simple_own _ p h = none
 
   prefix_own : (x : Prefix) (p : Site) → p.item ≡ i → Ours (λ s. noted_prefix x p s)
   prefix_own prefixes.Backwards p h = one backwards p h refl
-  prefix_own prefixes.Not p h = none
-  prefix_own prefixes.Test p h = none
-  prefix_own prefixes.Try p h = none
-  prefix_own prefixes.Do p h = none
-  prefix_own prefixes.Fail p h = none
-  prefix_own prefixes.Repeat p h = none
-  prefix_own prefixes.GoTo p h = none
-  prefix_own prefixes.GoPast p h = none
+  prefix_own _ p h = none
 
   condition_own : (c : Option (List ℕ)) (p : Site) → p.item ≡ i → Ours (λ s. noted_condition c p s)
   condition_own None p h = none

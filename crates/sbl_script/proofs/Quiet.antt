@@ -52,88 +52,55 @@ IsQuiet p = Keeps p.0
 
 declares_keeps : (x : DeclarationKind) → Keeps (t.declares x)
 declares_keeps declarations.Booleans e = refl
-declares_keeps declarations.Externals e = refl
-declares_keeps declarations.Groupings e = refl
-declares_keeps declarations.Integers e = refl
-declares_keeps declarations.Routines e = refl
-declares_keeps declarations.Strings e = refl
+declares_keeps _ e = refl
 
 joiner_keeps : (x : Joiner) → Keeps (t.joiner x)
 joiner_keeps joiners.And e = refl
-joiner_keeps joiners.Or e = refl
+joiner_keeps _ e = refl
 
 simple_keeps : (x : Simple) → Keeps (t.simple x)
 simple_keeps simples.AtLimit e = refl
-simple_keeps simples.Delete e = refl
-simple_keeps simples.False e = refl
-simple_keeps simples.Next e = refl
-simple_keeps simples.Substring e = refl
-simple_keeps simples.ToLimit e = refl
-simple_keeps simples.True e = refl
-simple_keeps simples.LeftBracket e = refl
-simple_keeps simples.RightBracket e = refl
+simple_keeps _ e = refl
 
 prefix_keeps : (x : Prefix) → Keeps (t.prefix x)
 prefix_keeps prefixes.Backwards e = refl
-prefix_keeps prefixes.Do e = refl
-prefix_keeps prefixes.Fail e = refl
-prefix_keeps prefixes.GoPast e = refl
-prefix_keeps prefixes.GoTo e = refl
-prefix_keeps prefixes.Not e = refl
-prefix_keeps prefixes.Repeat e = refl
-prefix_keeps prefixes.Test e = refl
-prefix_keeps prefixes.Try e = refl
+prefix_keeps _ e = refl
 
 count_keeps : (x : Count) → Keeps (t.count x)
 count_keeps counts.AtLeast e = refl
-count_keeps counts.Loop e = refl
+count_keeps _ e = refl
 
 move_keeps : (x : Move) → Keeps (t.move x)
 move_keeps moves.AtMark e = refl
-move_keeps moves.Hop e = refl
-move_keeps moves.ToMark e = refl
+move_keeps _ e = refl
 
 naming_keeps : (x : Naming) → Keeps (t.naming x)
 naming_keeps namings.Set e = refl
-naming_keeps namings.SetMark e = refl
-naming_keeps namings.Unset e = refl
-naming_keeps namings.Arrow e = refl
+naming_keeps _ e = refl
 
 splice_keeps : (x : Splice) → Keeps (t.splice x)
 splice_keeps splices.Attach e = refl
-splice_keeps splices.Insert e = refl
-splice_keeps splices.Replace e = refl
-splice_keeps splices.InsertSign e = refl
+splice_keeps _ e = refl
 
 additive_keeps : (x : Additive) → Keeps (t.additive x)
 additive_keeps additives.Plus e = refl
-additive_keeps additives.Minus e = refl
+additive_keeps _ e = refl
 
 multiplicative_keeps : (x : Multiplicative) → Keeps (t.multiplicative x)
 multiplicative_keeps multiplicatives.Times e = refl
-multiplicative_keeps multiplicatives.Over e = refl
+multiplicative_keeps _ e = refl
 
 assigns_keeps : (x : Assignment) → Keeps (t.assigns x)
 assigns_keeps assignments.Equals e = refl
-assigns_keeps assignments.Plus e = refl
-assigns_keeps assignments.Minus e = refl
-assigns_keeps assignments.Times e = refl
-assigns_keeps assignments.Over e = refl
+assigns_keeps _ e = refl
 
 compares_keeps : (x : Comparison) → Keeps (t.compares x)
 compares_keeps comparisons.Less e = refl
-compares_keeps comparisons.Greater e = refl
-compares_keeps comparisons.Same e = refl
-compares_keeps comparisons.Differs e = refl
-compares_keeps comparisons.AtMost e = refl
-compares_keeps comparisons.AtLeast e = refl
+compares_keeps _ e = refl
 
 constant_keeps : (x : Constant) → Keeps (t.constant x)
 constant_keeps constants.Cursor e = refl
-constant_keeps constants.Len e = refl
-constant_keeps constants.Limit e = refl
-constant_keeps constants.MaxInt e = refl
-constant_keeps constants.MinInt e = refl
+constant_keeps _ e = refl
 
 argument_keeps : (a : Argument) → Keeps (t.argument a)
 argument_keeps (written_out q) e = refl

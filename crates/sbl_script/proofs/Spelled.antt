@@ -27,7 +27,7 @@ use Rattle.sbl_parser.specs.Reading.{IsReadAs}
 use Rattle.sbl_ast.specs.Spelled.{spelled_command}
 use Rattle.sbl_ast.proofs.Lexed.{text_lexed}
 use Rattle.sbl_ast.proofs.After.{IsBefore, plain_before}
-use Rattle.sbl_parser.proofs.Faults.{tree_tokens}
+use Rattle.sbl_ast.proofs.PlacedTokens.{tree_tokens}
 use Rattle.sbl_ast.specs.NamedParts as named
 use Rattle.sbl_ast.specs.NamedParts.{Part'}
 use Rattle.sbl_script.specs.Edits.{changes, is_routine_named, is_grouping_named, escapes_after, items_with, plains_with}
@@ -150,11 +150,7 @@ sets_nothing d (routine m c os) e h = refl
 sets_nothing d (grouping m a ts) e h = refl
 sets_nothing d (declaration k ns) e h = refl
 sets_nothing (named.Routine n) (escapes a b) e h = absurd cc
-sets_nothing (named.Among n k) (escapes a b) e h = absurd cc
-sets_nothing (named.Grouping n) (escapes a b) e h = absurd cc
-sets_nothing (named.Routine n) (macro m b q) e h = absurd cc
-sets_nothing (named.Among n k) (macro m b q) e h = absurd cc
-sets_nothing (named.Grouping n) (macro m b q) e h = absurd cc
+sets_nothing _ _ e h = absurd cc
 
 step_same : (e : InForce) (x : Plain) (r q : Ps) → (Say (no_directive (escapes_after e x)) r → Say (no_directive (escapes_after e x)) q) → Say (no_directive e) (placed_plain x r) → Say (no_directive e) (placed_plain x q)
 step_same e x r q f h =

@@ -106,13 +106,7 @@ piece_of_text : (s : Directives) (k : Shape) (x : List ℕ) (place : ℕ) (f : S
 piece_of_text s shape.Number x place f (high, said) = as_said f _ refl said
 piece_of_text s shape.Literal x place f (inner, is, inl h) = first_wrong s.escapes inner (place + 1) f h
 piece_of_text s shape.Literal x place f (inner, is, inr (v, means, none, said)) = as_said f _ refl said
-piece_of_text s shape.Blank x place f h = absurd h
-piece_of_text s shape.LineComment x place f h = absurd h
-piece_of_text s shape.BlockComment x place f h = absurd h
-piece_of_text s shape.Word x place f h = absurd h
-piece_of_text s shape.Sign x place f h = absurd h
-piece_of_text s shape.Inserts x place f h = absurd h
-piece_of_text s shape.MacroName x place f h = absurd h
+piece_of_text s _ x place f h = absurd h
 
 -- ---- texts, and their tokens
 

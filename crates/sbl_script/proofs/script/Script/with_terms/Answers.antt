@@ -1,22 +1,18 @@
-use Rattle.std.proofs.Common.{rules, ◌≡◌, ◌⊎◌, List, [], None, Some, true, length, map, refl, sym, ap, subst, ◌∙◌}
-use Rattle.std.proofs.lemmas.Result.{err_from_is_err_and}
+use Rattle.std.proofs.Common.{rules, ◌≡◌, ◌⊎◌, [], Some, true, map, refl, sym, ap, subst, ◌∙◌}
 use Rattle.sbl_text.specs.declared.fault.ScriptFault.TheVariants as fault
-use Rattle.sbl_token.specs.declared.token.Token.{Token}
 use Rattle.sbl_text.specs.Tokens.{placed_of}
-use Rattle.sbl_parser.specs.Reading.{IsReadAs}
 use Rattle.sbl_ast.specs.Places.{placed_plain, AreShallow}
 use Rattle.sbl_ast.specs.Texts as texts
 use Rattle.sbl_ast.specs.Tree.{Plain, grouping}
 use Rattle.sbl_ast.specs.View.{view_argument, view_items, view_term}
 use Rattle.sbl_resolver.specs.Checks.{fault_of}
 use Rattle.sbl_script.specs.ParsedScript.{source_of}
-use Rattle.sbl_script.specs.Reading.{IsUnread, first_left_out, lexemes}
 use Rattle.sbl_script.specs.SpelledScript.{AreSpelled, IsSpelled}
 use Rattle.sbl_ast.specs.NamedParts.{Grouping as terms}
 use Rattle.sbl_script.specs.Edits.{is_grouping_named, items_with, first_of}
 use Rattle.sbl_script.specs.Homes.{home_of_terms}
-use Rattle.sbl_script.proofs.Agreement.{edited_out, first_same}
-use Rattle.sbl_script.proofs.Editing as editing
+use Rattle.sbl_script.proofs.Agreement.{first_same}
+use Rattle.sbl_script.proofs.Editing.{terms_there, check_refused, text_edited, text_refused, tree_of_same, unread_refused}
 use Rattle.sbl_script.proofs.Found.{same_name}
 use Rattle.sbl_script.proofs.Shallow.{grouping_shallow}
 use Rattle.sbl_script.proofs.Spelled.{terms_said, read_said}
@@ -24,97 +20,52 @@ use Rattle.sbl_script.proofs.script.Script.with_terms.Goals as goal
 
 pub returns-in_err-found-clause-fault : goal.returns-in_err-found-clause-fault
 returns-in_err-found-clause-fault c =
-    let p = err_from_is_err_and c.from_residual.result c.from_residual.ensures.1 in
-    let s = source_of c.args.self.now in
-    let n = c.args.name.now in
-    let text = c.args.text.now in
-    let h = home_of_terms s.items n in
-    let a = view_argument c.in-Some._replaced.now.first in
-    let os = map view_term c.in-Some._replaced.now.others.items in
-    let seen : first_of (is_grouping_named n) s.items ≡ Some (grouping n a os) = search rules in
-    let found = sym (first_same (is_grouping_named n) s.items) ∙ seen in
-    let there = editing.terms_home s.items n a os found in
-    rw p.1 (editing.told_as s (terms n) h text _ p.0 there p.2 (editing.text_told s h text _ c.in_err-found.ensures.fault))
+    text_refused (source_of c.args.self.now) (terms c.args.name.now) (home_of_terms (source_of c.args.self.now).items c.args.name.now) c.args.text.now _ c.from_residual.result
+    (terms_there (source_of c.args.self.now).items c.args.name.now (view_argument c.in-Some._replaced.now.first) (map view_term c.in-Some._replaced.now.others.items) (search rules)) c.from_residual.ensures.1 c.in_err-found.ensures.fault
 
 pub returns-in_err-terms-clause-fault : goal.returns-in_err-terms-clause-fault
 returns-in_err-terms-clause-fault c =
-    let p = err_from_is_err_and c.from_residual-in_err-terms.result c.from_residual-in_err-terms.ensures.1 in
-    let s = source_of c.args.self.now in
-    let n = c.args.name.now in
-    let text = c.args.text.now in
-    let h = home_of_terms s.items n in
-    let a = view_argument c.in-Some._replaced.now.first in
-    let os = map view_term c.in-Some._replaced.now.others.items in
-    let seen : first_of (is_grouping_named n) s.items ≡ Some (grouping n a os) = search rules in
-    let found = sym (first_same (is_grouping_named n) s.items) ∙ seen in
-    let there = editing.terms_home s.items n a os found in
-    let f = c.in_err-terms.field-0.0 in
-    let ts = map placed_of c.in_ok-found.found.items in
-    let unread = subst (λ (xs : List Token). (f ≡ fault.OutOfMemory) ⊎ IsUnread texts.terms (map placed_of xs) (length text) f) c.deref-2.ensures.value c.in_err-terms.ensures.fault in
-    rw p.1 (editing.told_as s (terms n) h text f p.0 there p.2 (editing.unread_told s h text ts f c.in_ok-found.ensures.tokens unread))
+    unread_refused (source_of c.args.self.now) (terms c.args.name.now) (home_of_terms (source_of c.args.self.now).items c.args.name.now) c.args.text.now _ c.in_ok-found.found.items _ c.from_residual-in_err-terms.result c.deref-2.ensures.value
+    (terms_there (source_of c.args.self.now).items c.args.name.now (view_argument c.in-Some._replaced.now.first) (map view_term c.in-Some._replaced.now.others.items) (search rules)) c.from_residual-in_err-terms.ensures.1 c.in_ok-found.ensures.tokens c.in_err-terms.ensures.fault
 
 pub with_definition-requires-clause-same : goal.with_definition-requires-clause-same
-with_definition-requires-clause-same c =
-    subst (λ (y : Plain). is_grouping_named c.args.name.now y ≡ true) (sym c.in_ok-new.ensures) (same_name c.args.name.now)
+with_definition-requires-clause-same c = subst (λ (y : Plain). is_grouping_named c.args.name.now y ≡ true) (sym c.in_ok-new.ensures) (same_name c.args.name.now)
 
 pub with_definition-requires-clause-shallow : goal.with_definition-requires-clause-shallow
 with_definition-requires-clause-shallow c =
-    let n = c.args.name.now in
     let x : texts.TreeOf texts.terms = (view_argument c.in_ok-terms.terms.0, map view_term c.in_ok-terms.terms.1.items) in
-    subst (λ (y : Plain). AreShallow (placed_plain y [])) (sym c.in_ok-new.ensures) (grouping_shallow n x.0 x.1 c.in_ok-terms.ensures.tree.1)
+    subst (λ (y : Plain). AreShallow (placed_plain y [])) (sym c.in_ok-new.ensures) (grouping_shallow c.args.name.now x.0 x.1 c.in_ok-terms.ensures.tree.1)
 
 pub with_definition-requires-clause-spelled : goal.with_definition-requires-clause-spelled
 with_definition-requires-clause-spelled c =
     let s = source_of c.args.self.now in
-    let n = c.args.name.now in
-    let text = c.args.text.now in
-    let h = home_of_terms s.items n in
+    let h = home_of_terms s.items c.args.name.now in
     let a = view_argument c.in-Some._replaced.now.first in
     let os = map view_term c.in-Some._replaced.now.others.items in
-    let seen : first_of (is_grouping_named n) s.items ≡ Some (grouping n a os) = search rules in
-    let found = sym (first_same (is_grouping_named n) s.items) ∙ seen in
-    let there = editing.terms_home s.items n a os found in
+    let seen : first_of (is_grouping_named c.args.name.now) s.items ≡ Some (grouping c.args.name.now a os) = search rules in
     let own : view_items c.self.inside.items.items ≡ s.items = search rules in
     let x : texts.TreeOf texts.terms = (view_argument c.in_ok-terms.terms.0, map view_term c.in_ok-terms.terms.1.items) in
-    let read = subst (λ (xs : List Token). IsReadAs texts.terms (lexemes (map placed_of xs)) x) c.deref-2.ensures.value c.in_ok-terms.ensures.tree in
-    let said = read_said h.state text (map placed_of c.in_ok-found.found.items) texts.terms x c.in_ok-found.ensures.tokens read in
-    subst (IsSpelled h.state) (sym c.in_ok-new.ensures) (terms_said n s.items a os x (subst AreSpelled own c.self.invariant.2) found said)
+    let tree = tree_of_same texts.terms _ _ x c.deref-2.ensures.value c.in_ok-terms.ensures.offered c.in_ok-terms.ensures.tree in
+    let said = read_said h.state c.args.text.now (map placed_of c.in_ok-found.found.items) texts.terms x c.in_ok-found.ensures.tokens tree.1 in
+    subst (IsSpelled h.state) (sym c.in_ok-new.ensures) (terms_said c.args.name.now s.items a os x (subst AreSpelled own c.self.invariant.2) (sym (first_same (is_grouping_named c.args.name.now) s.items) ∙ seen) said)
 
 pub returns-in_err-script-clause-fault : goal.returns-in_err-script-clause-fault
 returns-in_err-script-clause-fault c =
-    let p = err_from_is_err_and c.from_residual-in_err-script.result c.from_residual-in_err-script.ensures.1 in
     let s = source_of c.args.self.now in
-    let n = c.args.name.now in
-    let text = c.args.text.now in
-    let h = home_of_terms s.items n in
-    let a = view_argument c.in-Some._replaced.now.first in
-    let os = map view_term c.in-Some._replaced.now.others.items in
-    let seen : first_of (is_grouping_named n) s.items ≡ Some (grouping n a os) = search rules in
-    let found = sym (first_same (is_grouping_named n) s.items) ∙ seen in
-    let there = editing.terms_home s.items n a os found in
-    let ts = map placed_of c.in_ok-found.found.items in
+    let h = home_of_terms s.items c.args.name.now in
     let x : texts.TreeOf texts.terms = (view_argument c.in_ok-terms.terms.0, map view_term c.in_ok-terms.terms.1.items) in
-    let offered = subst (λ (xs : List Token). first_left_out (map placed_of xs) ≡ None) c.deref-2.ensures.value c.in_ok-terms.ensures.offered in
-    let read = subst (λ (xs : List Token). IsReadAs texts.terms (lexemes (map placed_of xs)) x) c.deref-2.ensures.value c.in_ok-terms.ensures.tree in
     let f = c.in_err-script.field-0.0 in
-    let failed = subst (λ (y : Plain). (f ≡ fault.OutOfMemory) ⊎ (fault_of (items_with (is_grouping_named n) y s.items) s.external ≡ Some f)) c.in_ok-new.ensures c.in_err-script.ensures.fault in
-    rw p.1 (editing.told_as s (terms n) h text f p.0 there p.2 (editing.check_told s h text ts x f c.in_ok-found.ensures.tokens offered read failed))
+    let failed = subst (λ (y : Plain). (f ≡ fault.OutOfMemory) ⊎ (fault_of (items_with (is_grouping_named c.args.name.now) y s.items) s.external ≡ Some f)) c.in_ok-new.ensures c.in_err-script.ensures.fault in
+    check_refused s (terms c.args.name.now) h c.args.text.now c.in_ok-found.found.items x f c.from_residual-in_err-script.result
+    (terms_there (source_of c.args.self.now).items c.args.name.now (view_argument c.in-Some._replaced.now.first) (map view_term c.in-Some._replaced.now.others.items) (search rules)) c.from_residual-in_err-script.ensures.1 c.in_ok-found.ensures.tokens
+    (tree_of_same h.text _ _ x c.deref-2.ensures.value c.in_ok-terms.ensures.offered c.in_ok-terms.ensures.tree) failed
 
 pub returns-clause-script : goal.returns-clause-script
 returns-clause-script c =
     let s = source_of c.args.self.now in
-    let n = c.args.name.now in
-    let text = c.args.text.now in
-    let h = home_of_terms s.items n in
-    let a = view_argument c.in-Some._replaced.now.first in
-    let os = map view_term c.in-Some._replaced.now.others.items in
-    let seen : first_of (is_grouping_named n) s.items ≡ Some (grouping n a os) = search rules in
-    let found = sym (first_same (is_grouping_named n) s.items) ∙ seen in
-    let there = editing.terms_home s.items n a os found in
-    let ts = map placed_of c.in_ok-found.found.items in
+    let h = home_of_terms s.items c.args.name.now in
     let x : texts.TreeOf texts.terms = (view_argument c.in_ok-terms.terms.0, map view_term c.in_ok-terms.terms.1.items) in
-    let offered = subst (λ (xs : List Token). first_left_out (map placed_of xs) ≡ None) c.deref-2.ensures.value c.in_ok-terms.ensures.offered in
-    let read = subst (λ (xs : List Token). IsReadAs texts.terms (lexemes (map placed_of xs)) x) c.deref-2.ensures.value c.in_ok-terms.ensures.tree in
-    let u = source_of c.in_ok-script.script in
-    let items = c.in_ok-script.ensures.items ∙ ap (λ (y : Plain). items_with (is_grouping_named n) y s.items) c.in_ok-new.ensures in
-    edited_out s (terms n) text u (h, there, editing.substitution_of s u h text ts x true c.in_ok-found.ensures.tokens offered read items c.in_ok-script.ensures.external c.in_ok-script.ensures.well_declared refl)
+    let items = c.in_ok-script.ensures.items ∙ ap (λ (y : Plain). items_with (is_grouping_named c.args.name.now) y s.items) c.in_ok-new.ensures in
+    text_edited s (source_of c.in_ok-script.script) (terms c.args.name.now) h c.args.text.now c.in_ok-found.found.items x
+    (terms_there (source_of c.args.self.now).items c.args.name.now (view_argument c.in-Some._replaced.now.first) (map view_term c.in-Some._replaced.now.others.items) (search rules)) c.in_ok-found.ensures.tokens
+    (tree_of_same h.text _ _ x c.deref-2.ensures.value c.in_ok-terms.ensures.offered c.in_ok-terms.ensures.tree) items c.in_ok-script.ensures.external c.in_ok-script.ensures.well_declared refl
