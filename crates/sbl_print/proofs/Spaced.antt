@@ -9,7 +9,7 @@ use Rattle.sbl_token.specs.Lexemes.{Lexeme, word, sign}
 use Rattle.sbl_token.specs.declared.words.Word.TheVariants as words
 use Rattle.sbl_token.specs.declared.signs.Sign.TheVariants as signs
 use Rattle.sbl_text.specs.SpacedTokens.{SpacedToken, are_white, lexeme_text, lexemes_of, spaced_text}
-use Rattle.sbl_ast.specs.Tree.{Plain, declaration, escapes, macro, routine, grouping, Item, plain, backward}
+use Rattle.sbl_ast.specs.Tree.{Plain, declaration, Item, plain, backward}
 use Rattle.sbl_ast.specs.Places as places
 use Rattle.sbl_ast.specs.Places.{AtDepth, placed_item, placed_plain, tokens}
 use Rattle.sbl_ast.specs.inside.PlaceParts.{placed_items, placed_plains}
@@ -110,10 +110,7 @@ item_first (backward ps) r =
 
 plain_spaced : (p : Plain) → IsSpaced (tokens (placed_plain p [])) (plain_text p)
 plain_spaced (declaration k ns) = line_spaced _ _
-plain_spaced (escapes a b) = line_spaced _ _
-plain_spaced (macro n b q) = line_spaced _ _
-plain_spaced (routine n c os) = line_spaced _ _
-plain_spaced (grouping n a xs) = line_spaced _ _
+plain_spaced _ = line_spaced _ _
 
 plains_spaced : (ps : List Plain) → IsSpaced (tokens (placed_plains ps [])) (flat_map plain_text ps)
 plains_spaced [] = nothing_spaced
