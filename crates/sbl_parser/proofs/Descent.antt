@@ -62,9 +62,7 @@ fails_along e f h same g = subst (λ (x : Option Fault). Fails e x) (sym same) g
 
 pub fails : (e : ReadError) (f : Option Fault) → error_for f ≡ Some e → Fails e f
 fails errors.Memory f is = tt
-fails (errors.Syntax n) f is = is
-fails (errors.TooDeep n) f is = is
-fails (errors.OutOfProfile n) f is = is
+fails _ f is = is
 
 pub refuses : (e : ReadError) (ts : Ts) (f : Option Fault) → e ≡ errors.Syntax (length ts) → f ≡ Some (syntax ts) → Fails e f
 refuses e ts f is found = fails e f (ap (λ (x : Option Fault). error_for x) found ∙ ap (λ (x : ReadError). Some x) (sym is))
@@ -341,38 +339,7 @@ refused_operator (_ ∷ ts) d k n0 n1 n2 = refl
 pub ended_operator : (ts : Ts) (d : ℕ) (k : Stack) → role_of ts ≡ roles.End → fault ts (s.operator d ∷ k) ≡ Some (syntax ts)
 ended_operator [] d k e = refl
 ended_operator (t.open_ ∷ ts) d k e = absurd cc
-ended_operator (t.close_ ∷ ts) d k e = absurd cc
-ended_operator (t.dollar ∷ ts) d k e = absurd cc
-ended_operator (t.as_ ∷ ts) d k e = absurd cc
-ended_operator (t.for_ ∷ ts) d k e = absurd cc
-ended_operator (t.non ∷ ts) d k e = absurd cc
-ended_operator (t.among ∷ ts) d k e = absurd cc
-ended_operator (t.define ∷ ts) d k e = absurd cc
-ended_operator (t.backward_mode ∷ ts) d k e = absurd cc
-ended_operator (t.set_limit ∷ ts) d k e = absurd cc
-ended_operator (t.string_def ∷ ts) d k e = absurd cc
-ended_operator (t.string_escapes ∷ ts) d k e = absurd cc
-ended_operator (t.len_of ∷ ts) d k e = absurd cc
-ended_operator ((t.declares o) ∷ ts) d k e = absurd cc
-ended_operator ((t.base o) ∷ ts) d k e = absurd cc
-ended_operator ((t.joiner o) ∷ ts) d k e = absurd cc
-ended_operator ((t.simple o) ∷ ts) d k e = absurd cc
-ended_operator ((t.prefix o) ∷ ts) d k e = absurd cc
-ended_operator ((t.count o) ∷ ts) d k e = absurd cc
-ended_operator ((t.move o) ∷ ts) d k e = absurd cc
-ended_operator ((t.naming o) ∷ ts) d k e = absurd cc
-ended_operator ((t.edit o) ∷ ts) d k e = absurd cc
-ended_operator ((t.additive o) ∷ ts) d k e = absurd cc
-ended_operator ((t.multiplicative o) ∷ ts) d k e = absurd cc
-ended_operator ((t.assigns o) ∷ ts) d k e = absurd cc
-ended_operator ((t.compares o) ∷ ts) d k e = absurd cc
-ended_operator ((t.constant o) ∷ ts) d k e = absurd cc
-ended_operator ((t.name n) ∷ ts) d k e = absurd cc
-ended_operator ((t.number n) ∷ ts) d k e = absurd cc
-ended_operator ((t.literal q) ∷ ts) d k e = absurd cc
-ended_operator ((t.inserts a b) ∷ ts) d k e = absurd cc
-ended_operator ((t.macro_name n) ∷ ts) d k e = absurd cc
-ended_operator ((t.other o) ∷ ts) d k e = absurd cc
+ended_operator (_ ∷ ts) d k e = absurd cc
 
 -- a command too deep
 pub deep_command : (ts : Ts) (d : ℕ) (k : Stack) → begins_command (role_of ts) ≡ true → max_depth < d → fault ts (s.command d ∷ k) ≡ Some (too_deep ts)

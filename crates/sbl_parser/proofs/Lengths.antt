@@ -1,9 +1,9 @@
 -- What is read has a token at least.
-use Rattle.std.proofs.Common.{◌≡◌, ℕ, ◌<◌, ◌≤◌, true, false, List, [], ◌∷◌, length, drop, Option, Some, None, ap, arith, length-drop}
+use Rattle.std.proofs.Common.{◌≡◌, ℕ, ◌<◌, ◌≤◌, true, List, [], ◌∷◌, length, drop, Option, Some, None, ap, arith, length-drop}
 use Rattle.sbl_ast.specs.declared.tree.Base.{Base}
 use Rattle.sbl_ast.specs.Terminal.{Terminal, tokens_left}
 use Rattle.sbl_ast.specs.Terminal as t
-use Rattle.sbl_ast.specs.Tree.{Expression, expression, Sums, no_sums, sum, Product, product, Scales, no_scales, scale, Factor, negated, bracketed, numeral, variable, fixed, length_of, Entry, entry, Command, bracket, simple_, literal_, name_, non_, prefixed, counted, move_, named, splice_, setlimit_, assign_, compare_, compare_values_, among_, Rows, no_rows, row, Others, no_others, joined, Starter, no_starter, starter, Groups, bare, group, Term, term, Plain, declaration, escapes, macro, routine, grouping, Item, plain, backward}
+use Rattle.sbl_ast.specs.Tree.{Expression, expression, Sums, no_sums, sum, Product, product, Scales, no_scales, scale, Factor, negated, bracketed, Entry, entry, Command, bracket, non_, prefixed, counted, move_, setlimit_, assign_, compare_, compare_values_, among_, Rows, no_rows, row, Others, no_others, joined, Starter, no_starter, starter, Groups, bare, group, Term, term, Plain, declaration, escapes, macro, routine, grouping, Item, plain, backward}
 use Rattle.sbl_ast.specs.Spelled.{spelled_expression, spelled_sums, spelled_product, spelled_scales, spelled_factor, spelled_entry, spelled_entries, spelled_command, spelled_rows, spelled_others, spelled_starter, spelled_groups, spelled_names, spelled_base, spelled_terms, spelled_plain, spelled_plains, spelled_item}
 
 abbrev Ts : Type 0
@@ -27,10 +27,7 @@ mutual
   pub factor_length : (f : Factor) (rest : Ts) → length rest < length (spelled_factor f rest)
   factor_length (negated f) rest = omega (arith, factor_length f rest)
   factor_length (bracketed x) rest = omega (arith, expression_length x (t.close_ ∷ rest))
-  factor_length (numeral n) rest = omega arith
-  factor_length (variable n) rest = omega arith
-  factor_length (fixed c) rest = omega arith
-  factor_length (length_of a) rest = omega arith
+  factor_length _ rest = omega arith
 
 pub entry_length : (x : Entry) (rest : Ts) → length rest < length (spelled_entry x rest)
 entry_length (entry q None) rest = omega arith
@@ -43,21 +40,16 @@ entries_length (x ∷ xs) rest = omega (arith, entry_length x (spelled_entries x
 mutual
   pub tree_length : (c : Command) (rest : Ts) → length rest < length (spelled_command c rest)
   tree_length (bracket rs) rest = omega (arith, rows_length rs (t.close_ ∷ rest))
-  tree_length (simple_ x) rest = omega arith
-  tree_length (literal_ q) rest = omega arith
-  tree_length (name_ n) rest = omega arith
   tree_length (non_ true n) rest = omega arith
-  tree_length (non_ false n) rest = omega arith
   tree_length (prefixed p c) rest = omega (arith, tree_length c rest)
   tree_length (counted n e c) rest = omega (arith, expression_length e (spelled_command c rest), tree_length c rest)
   tree_length (move_ m e) rest = omega (arith, expression_length e rest)
-  tree_length (named x n) rest = omega arith
-  tree_length (splice_ x a) rest = omega arith
   tree_length (setlimit_ b c) rest = omega (arith, tree_length b (t.for_ ∷ spelled_command c rest), tree_length c rest)
   tree_length (assign_ n o e) rest = omega (arith, expression_length e rest)
   tree_length (compare_ n o e) rest = omega (arith, expression_length e rest)
   tree_length (compare_values_ e o f) rest = omega (arith, expression_length e (t.compares o ∷ spelled_expression f (t.close_ ∷ rest)), expression_length f (t.close_ ∷ rest))
   tree_length (among_ x gs) rest = omega (arith, starter_length x (spelled_groups gs (t.close_ ∷ rest)), groups_length gs (t.close_ ∷ rest))
+  tree_length _ rest = omega arith
 
   pub rows_length : (rs : Rows) (rest : Ts) → length rest ≤ length (spelled_rows rs rest)
   rows_length no_rows rest = omega arith

@@ -7,7 +7,7 @@ use Rattle.sbl_ast.specs.TerminalPlaces.{tokens_of}
 use Rattle.sbl_ast.specs.Texts.{Text, TreeOf}
 use Rattle.sbl_ast.specs.Texts as texts
 use Rattle.sbl_parser.specs.Laws.{TreesAreOne}
-use Rattle.sbl_parser.proofs.Faults.{places_tokens, body_tokens, tree_tokens, terms_tokens}
+use Rattle.sbl_ast.proofs.PlacedTokens.{places_tokens, body_tokens, tree_tokens, terms_tokens}
 use Rattle.sbl_parser.proofs.Lexed.{T, text_back}
 use Rattle.sbl_parser.proofs.Unique.{one_tree, one_body, one_row_of_terms, one_among}
 

@@ -266,9 +266,7 @@ mutual
 -- an operator is wanted: `$` and a name came last
 first_clear : (w : Text) → clear (first_stack w) ≡ true
 first_clear texts.script = refl
-first_clear texts.body = refl
-first_clear texts.terms = refl
-first_clear (texts.among d) = refl
+first_clear _ = refl
 
 pub came : (w : Text) (ps : List AtDepth) (x : Terminal) → Runs ps (first_stack w) (λ end. step end x ≡ unassigned) → EndsSo ps
 came w ps x h = from_clear ps (first_stack w) x (first_clear w) h
@@ -276,38 +274,21 @@ came w ps x h = from_clear ps (first_stack w) x (first_clear w) h
 -- ---- and the other way round
 
 dollar_step : (k : Stack) (d : ℕ) (next : Stack) → step k t.dollar ≡ goes d next → (e : ℕ) × (rest : Stack) × (next ≡ s.subject e ∷ rest)
-dollar_step [] d next h = absurd cc
-dollar_step (s.opening e ∷ k) d next h = absurd cc
-dollar_step (s.closing e ∷ k) d next h = absurd cc
-dollar_step (s.name e ∷ k) d next h = absurd cc
-dollar_step (s.argument e ∷ k) d next h = absurd cc
 dollar_step (s.command e ∷ k) d next h = (e, k, cc)
 dollar_step (s.others e ∷ k) d next h = dollar_step k d next h
 dollar_step (s.rows e ∷ k) d next h = (e, s.others e ∷ s.rows e ∷ k, cc)
-dollar_step (s.for_ e ∷ k) d next h = absurd cc
-dollar_step (s.excluded e ∷ k) d next h = absurd cc
-dollar_step (s.subject e ∷ k) d next h = absurd cc
-dollar_step (s.operator e ∷ k) d next h = absurd cc
-dollar_step (s.comparison e ∷ k) d next h = absurd cc
-dollar_step (s.factor e ∷ k) d next h = absurd cc
 dollar_step (s.scales e ∷ k) d next h = dollar_step k d next h
 dollar_step (s.sums e ∷ k) d next h = dollar_step k d next h
 dollar_step (s.starter e ∷ k) d next h = dollar_step k d next h
 dollar_step (s.groups e ∷ k) d next h = dollar_step k d next h
 dollar_step (s.entries e ∷ k) d next h = dollar_step k d next h
 dollar_step (s.condition e ∷ k) d next h = dollar_step k d next h
-dollar_step (s.among e ∷ k) d next h = absurd cc
-dollar_step (s.inserts ∷ k) d next h = absurd cc
-dollar_step (s.macro ∷ k) d next h = absurd cc
 dollar_step (s.base ∷ k) d next h = dollar_step k d next h
-dollar_step (s.literal ∷ k) d next h = absurd cc
-dollar_step (s.definition ∷ k) d next h = absurd cc
 dollar_step (s.terms ∷ k) d next h = dollar_step k d next h
 dollar_step (s.names ∷ k) d next h = dollar_step k d next h
-dollar_step (s.plain ∷ k) d next h = absurd cc
 dollar_step (s.plains ∷ k) d next h = dollar_step k d next h
-dollar_step (s.item ∷ k) d next h = absurd cc
 dollar_step (s.items ∷ k) d next h = dollar_step k d next h
+dollar_step _ d next h = absurd cc
 
 last_two : (k : Stack) (p q : AtDepth) (n : List ℕ) (x : Terminal) → p.0 ≡ t.dollar → q.0 ≡ t.name n → Runs (p ∷ q ∷ []) k (λ end. step end x ≡ stuck) → ⊥
 last_two k p q n x is named h =

@@ -1,5 +1,5 @@
 -- The token of a role.
-use Rattle.std.proofs.Common.{◌≡◌, ℕ, ◌<◌, Bool, true, false, List, [], ◌∷◌, length, drop, Option, Some, None, refl, sym, ap, ◌∙◌, arith}
+use Rattle.std.proofs.Common.{◌≡◌, ℕ, ◌<◌, Bool, true, false, List, [], ◌∷◌, length, drop, Option, Some, None, is_some, ◌||◌, refl, sym, ap, ◌∙◌, arith}
 use Rattle.sbl_token.specs.declared.words.Word.{Word}
 use Rattle.sbl_token.specs.declared.words.Word.TheVariants as w
 use Rattle.sbl_token.specs.declared.signs.Sign.{Sign}
@@ -53,13 +53,7 @@ undo _ = None
 
 -- a token that its role determines
 abbrev pub is_determined : Terminal → Bool
-is_determined (t.name n) = false
-is_determined (t.number n) = false
-is_determined (t.literal q) = false
-is_determined (t.inserts a b) = false
-is_determined (t.macro_name n) = false
-is_determined (t.other o) = false
-is_determined _ = true
+is_determined x = is_some (undo (role_as x))
 
 undone : (x : Terminal) → is_determined x ≡ true → undo (role_as x) ≡ Some x
 undone (t.name n) e = absurd cc
@@ -70,148 +64,42 @@ undone (t.macro_name n) e = absurd cc
 undone (t.other o) e = absurd cc
 undone _ e = refl
 
-undo_none : (x : Terminal) → is_determined x ≡ false → undo (role_as x) ≡ None
-undo_none t.open_ e = absurd cc
-undo_none t.close_ e = absurd cc
-undo_none t.dollar e = absurd cc
-undo_none t.as_ e = absurd cc
-undo_none t.for_ e = absurd cc
-undo_none t.non e = absurd cc
-undo_none t.among e = absurd cc
-undo_none t.define e = absurd cc
-undo_none t.backward_mode e = absurd cc
-undo_none t.set_limit e = absurd cc
-undo_none t.string_def e = absurd cc
-undo_none t.string_escapes e = absurd cc
-undo_none t.len_of e = absurd cc
-undo_none (t.declares o) e = absurd cc
-undo_none (t.base o) e = absurd cc
-undo_none (t.joiner o) e = absurd cc
-undo_none (t.simple o) e = absurd cc
-undo_none (t.prefix o) e = absurd cc
-undo_none (t.count o) e = absurd cc
-undo_none (t.move o) e = absurd cc
-undo_none (t.naming o) e = absurd cc
-undo_none (t.edit o) e = absurd cc
-undo_none (t.additive o) e = absurd cc
-undo_none (t.multiplicative o) e = absurd cc
-undo_none (t.assigns o) e = absurd cc
-undo_none (t.compares o) e = absurd cc
-undo_none (t.constant o) e = absurd cc
-undo_none _ e = refl
+none_of : {X : Type 0} (o : Option X) → is_some o ≡ false → o ≡ None
+none_of None e = refl
+none_of (Some x) e = absurd cc
 
 pub as_terminal : (ts : Ts) (x : Terminal) → is_determined x ≡ true → role_of ts ≡ role_as x → ts ≡ x ∷ drop 1 ts
 as_terminal [] x d e = let f : None ≡ Some x = ap undo e ∙ undone x d in absurd cc
 as_terminal (y ∷ ts) x d e = go (is_determined y) refl where
   go : (b : Bool) → is_determined y ≡ b → y ∷ ts ≡ x ∷ ts
   go true is = let f : Some y ≡ Some x = sym (undone y is) ∙ ap undo e ∙ undone x d in cc
-  go false is = let f : None ≡ Some x = sym (undo_none y is) ∙ ap undo e ∙ undone x d in absurd cc
+  go false is = let f : None ≡ Some x = sym (none_of (undo (role_as y)) is) ∙ ap undo e ∙ undone x d in absurd cc
 
 pub some_first : (ts : Ts) (r : Role) → role_of ts ≡ r → (r ≡ roles.End → ⊥) → 0 < length ts
 some_first [] r e n = absurd (n (sym e))
 some_first (x ∷ ts) r e n = omega arith
 
+abbrev is_other : Role → Bool
+is_other roles.Other = true
+is_other _ = false
+
 -- words and signs are determined or stand in no tree
 abbrev plays_itself : Role → Bool
-plays_itself roles.Name = false
-plays_itself roles.Number = false
-plays_itself roles.Literal = false
-plays_itself roles.Inserts = false
-plays_itself roles.MacroName = false
-plays_itself _ = true
+plays_itself r = is_other r || is_some (undo r)
 
 word_plays : (v : Word) → plays_itself (role_as (word_terminal v)) ≡ true
 word_plays w.Among = refl
-word_plays w.And = refl
-word_plays w.As = refl
-word_plays w.AtLeast = refl
-word_plays w.AtLimit = refl
-word_plays w.AtMark = refl
-word_plays w.Attach = refl
-word_plays w.BackwardMode = refl
-word_plays w.Backwards = refl
-word_plays w.Booleans = refl
-word_plays w.Cursor = refl
-word_plays w.Decimal = refl
-word_plays w.Define = refl
-word_plays w.Delete = refl
-word_plays w.Do = refl
-word_plays w.Externals = refl
-word_plays w.Fail = refl
-word_plays w.False = refl
-word_plays w.For = refl
-word_plays w.Get = refl
-word_plays w.GoPast = refl
-word_plays w.GoTo = refl
-word_plays w.Groupings = refl
-word_plays w.Hex = refl
-word_plays w.Hop = refl
-word_plays w.Insert = refl
-word_plays w.Integers = refl
-word_plays w.Len = refl
-word_plays w.LenOf = refl
-word_plays w.Limit = refl
-word_plays w.Loop = refl
-word_plays w.MaxInt = refl
-word_plays w.MinInt = refl
-word_plays w.Next = refl
-word_plays w.Non = refl
-word_plays w.Not = refl
-word_plays w.Or = refl
-word_plays w.Repeat = refl
-word_plays w.Reverse = refl
-word_plays w.Routines = refl
-word_plays w.Set = refl
-word_plays w.SetLimit = refl
-word_plays w.SetMark = refl
-word_plays w.Size = refl
-word_plays w.SizeOf = refl
-word_plays w.StringDef = refl
-word_plays w.StringEscapes = refl
-word_plays w.Strings = refl
-word_plays w.Substring = refl
-word_plays w.Test = refl
-word_plays w.ToLimit = refl
-word_plays w.ToMark = refl
-word_plays w.True = refl
-word_plays w.Try = refl
-word_plays w.Unset = refl
+word_plays _ = refl
 
 sign_plays : (v : Sign) → plays_itself (role_as (sign_terminal v)) ≡ true
 sign_plays g.Open = refl
-sign_plays g.Close = refl
-sign_plays g.LeftBracket = refl
-sign_plays g.RightBracket = refl
-sign_plays g.Dollar = refl
-sign_plays g.Plus = refl
-sign_plays g.Minus = refl
-sign_plays g.Star = refl
-sign_plays g.Slash = refl
-sign_plays g.Equals = refl
-sign_plays g.Question = refl
-sign_plays g.Less = refl
-sign_plays g.Greater = refl
-sign_plays g.Same = refl
-sign_plays g.Differs = refl
-sign_plays g.AtMost = refl
-sign_plays g.AtLeast = refl
-sign_plays g.LessMinus = refl
-sign_plays g.LessPlus = refl
-sign_plays g.Arrow = refl
-sign_plays g.PlusEquals = refl
-sign_plays g.MinusEquals = refl
-sign_plays g.StarEquals = refl
-sign_plays g.SlashEquals = refl
-sign_plays g.EqualsGreater = refl
+sign_plays _ = refl
 
 is_name : (k : Kind) (text : List ℕ) (v : Value) → role_as (terminal_of (lexeme_by k text v)) ≡ roles.Name → terminal_of (lexeme_by k text v) ≡ t.name text
 is_name (kinds.Word x) text v e = let f : true ≡ false = sym (word_plays x) ∙ ap plays_itself e in absurd cc
 is_name (kinds.Sign x) text v e = let f : true ≡ false = sym (sign_plays x) ∙ ap plays_itself e in absurd cc
 is_name kinds.Name text v e = refl
-is_name kinds.Number text v e = absurd cc
-is_name kinds.Literal text v e = absurd cc
-is_name kinds.Inserts text v e = absurd cc
-is_name kinds.MacroName text v e = absurd cc
+is_name _ text v e = absurd cc
 
 pub as_name : (ts : List Token) → role_of (terminals_of ts) ≡ roles.Name → terminals_of ts ≡ t.name (first_text ts) ∷ drop 1 (terminals_of ts)
 as_name [] e = absurd cc
@@ -220,11 +108,8 @@ as_name (x ∷ ts) e = ap (λ (y : Terminal). y ∷ terminals_of ts) (is_name x.
 is_number : (k : Kind) (text : List ℕ) (v : Value) → role_as (terminal_of (lexeme_by k text v)) ≡ roles.Number → terminal_of (lexeme_by k text v) ≡ t.number (number_in v)
 is_number (kinds.Word x) text v e = let f : true ≡ false = sym (word_plays x) ∙ ap plays_itself e in absurd cc
 is_number (kinds.Sign x) text v e = let f : true ≡ false = sym (sign_plays x) ∙ ap plays_itself e in absurd cc
-is_number kinds.Name text v e = absurd cc
 is_number kinds.Number text v e = refl
-is_number kinds.Literal text v e = absurd cc
-is_number kinds.Inserts text v e = absurd cc
-is_number kinds.MacroName text v e = absurd cc
+is_number _ text v e = absurd cc
 
 pub as_number : (ts : List Token) → role_of (terminals_of ts) ≡ roles.Number → terminals_of ts ≡ t.number (first_number ts) ∷ drop 1 (terminals_of ts)
 as_number [] e = absurd cc
@@ -233,11 +118,8 @@ as_number (x ∷ ts) e = ap (λ (y : Terminal). y ∷ terminals_of ts) (is_numbe
 is_literal : (k : Kind) (text : List ℕ) (v : Value) → role_as (terminal_of (lexeme_by k text v)) ≡ roles.Literal → terminal_of (lexeme_by k text v) ≡ t.literal (quoted_in v)
 is_literal (kinds.Word x) text v e = let f : true ≡ false = sym (word_plays x) ∙ ap plays_itself e in absurd cc
 is_literal (kinds.Sign x) text v e = let f : true ≡ false = sym (sign_plays x) ∙ ap plays_itself e in absurd cc
-is_literal kinds.Name text v e = absurd cc
-is_literal kinds.Number text v e = absurd cc
 is_literal kinds.Literal text v e = refl
-is_literal kinds.Inserts text v e = absurd cc
-is_literal kinds.MacroName text v e = absurd cc
+is_literal _ text v e = absurd cc
 
 pub as_literal : (ts : List Token) → role_of (terminals_of ts) ≡ roles.Literal → terminals_of ts ≡ t.literal (first_literal ts) ∷ drop 1 (terminals_of ts)
 as_literal [] e = absurd cc
@@ -246,11 +128,8 @@ as_literal (x ∷ ts) e = ap (λ (y : Terminal). y ∷ terminals_of ts) (is_lite
 is_inserts : (k : Kind) (text : List ℕ) (v : Value) → role_as (terminal_of (lexeme_by k text v)) ≡ roles.Inserts → terminal_of (lexeme_by k text v) ≡ t.inserts (inserts_in v).0 (inserts_in v).1
 is_inserts (kinds.Word x) text v e = let f : true ≡ false = sym (word_plays x) ∙ ap plays_itself e in absurd cc
 is_inserts (kinds.Sign x) text v e = let f : true ≡ false = sym (sign_plays x) ∙ ap plays_itself e in absurd cc
-is_inserts kinds.Name text v e = absurd cc
-is_inserts kinds.Number text v e = absurd cc
-is_inserts kinds.Literal text v e = absurd cc
 is_inserts kinds.Inserts text v e = refl
-is_inserts kinds.MacroName text v e = absurd cc
+is_inserts _ text v e = absurd cc
 
 pub as_inserts : (ts : List Token) → role_of (terminals_of ts) ≡ roles.Inserts → terminals_of ts ≡ t.inserts (first_inserts ts).0 (first_inserts ts).1 ∷ drop 1 (terminals_of ts)
 as_inserts [] e = absurd cc
@@ -259,11 +138,8 @@ as_inserts (x ∷ ts) e = ap (λ (y : Terminal). y ∷ terminals_of ts) (is_inse
 is_macro : (k : Kind) (text : List ℕ) (v : Value) → role_as (terminal_of (lexeme_by k text v)) ≡ roles.MacroName → terminal_of (lexeme_by k text v) ≡ t.macro_name text
 is_macro (kinds.Word x) text v e = let f : true ≡ false = sym (word_plays x) ∙ ap plays_itself e in absurd cc
 is_macro (kinds.Sign x) text v e = let f : true ≡ false = sym (sign_plays x) ∙ ap plays_itself e in absurd cc
-is_macro kinds.Name text v e = absurd cc
-is_macro kinds.Number text v e = absurd cc
-is_macro kinds.Literal text v e = absurd cc
-is_macro kinds.Inserts text v e = absurd cc
 is_macro kinds.MacroName text v e = refl
+is_macro _ text v e = absurd cc
 
 pub as_macro : (ts : List Token) → role_of (terminals_of ts) ≡ roles.MacroName → terminals_of ts ≡ t.macro_name (first_text ts) ∷ drop 1 (terminals_of ts)
 as_macro [] e = absurd cc

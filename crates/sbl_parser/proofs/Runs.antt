@@ -2,7 +2,7 @@
 use Rattle.std.proofs.Common.{◌≡◌, ℕ, ◌+◌, true, false, List, [], ◌∷◌, Option, Some, None, refl}
 use Rattle.sbl_ast.specs.declared.tree.Base.{Base}
 use Rattle.sbl_ast.specs.Terminal as t
-use Rattle.sbl_ast.specs.Tree.{QuotedText, Argument, written_out, by_name, Expression, expression, Sums, no_sums, sum, Product, product, Scales, no_scales, scale, Factor, negated, bracketed, numeral, variable, fixed, length_of, Entry, entry, Command, bracket, simple_, literal_, name_, non_, prefixed, counted, move_, named, splice_, setlimit_, assign_, compare_, compare_values_, among_, Rows, no_rows, row, Others, no_others, joined, Starter, no_starter, starter, Groups, bare, group, Term, term, Plain, declaration, escapes, macro, routine, grouping, Item, plain, backward}
+use Rattle.sbl_ast.specs.Tree.{QuotedText, Argument, written_out, by_name, Expression, expression, Sums, no_sums, sum, Product, product, Scales, no_scales, scale, Factor, negated, bracketed, length_of, Entry, entry, Command, bracket, simple_, literal_, name_, non_, prefixed, counted, move_, named, splice_, setlimit_, assign_, compare_, compare_values_, among_, Rows, no_rows, row, Others, no_others, joined, Starter, no_starter, starter, Groups, bare, group, Term, term, Plain, declaration, escapes, macro, routine, grouping, Item, plain, backward}
 use Rattle.sbl_ast.specs.Spelled.{argument_terminal}
 use Rattle.sbl_ast.specs.TerminalPlaces.{AtDepth, placed_expression, placed_sums, placed_product, placed_scales, placed_factor, placed_entry, placed_entries, placed_command, placed_rows, placed_others, placed_starter, placed_groups, placed_names, placed_base, placed_terms, placed_plain, placed_plains, placed_item, placed_items, places, places_in}
 use Rattle.sbl_parser.specs.Steps.{Stack}
@@ -44,10 +44,8 @@ mutual
     refl,
     expression_runs x (d + 1) ((t.close_, d + 1) ∷ ps) (s.closing (d + 1) ∷ k) (record { plus = refl; times = refl }) (k, refl, h),
   )
-  factor_runs (numeral n) d ps k h = (k, refl, h)
-  factor_runs (variable n) d ps k h = (k, refl, h)
-  factor_runs (fixed c) d ps k h = (k, refl, h)
   factor_runs (length_of a) d ps k h = (s.argument d ∷ k, refl, argument_runs a d ps k h)
+  factor_runs _ d ps k h = (k, refl, h)
 
 -- ---- the strings of an among
 
@@ -76,39 +74,13 @@ bare_runs (x ∷ xs) d ps k h = (entry_runs x d (placed_entries xs d ((t.close_,
 
 tree_calm : (c : Command) (d : ℕ) (ps : List AtDepth) → Calm (placed_command c d ps)
 tree_calm (bracket rs) d ps = record { plus = refl; times = refl }
-tree_calm (simple_ x) d ps = record { plus = refl; times = refl }
-tree_calm (literal_ q) d ps = record { plus = refl; times = refl }
-tree_calm (name_ n) d ps = record { plus = refl; times = refl }
 tree_calm (non_ true n) d ps = record { plus = refl; times = refl }
-tree_calm (non_ false n) d ps = record { plus = refl; times = refl }
-tree_calm (prefixed p c) d ps = record { plus = refl; times = refl }
-tree_calm (counted n e c) d ps = record { plus = refl; times = refl }
-tree_calm (move_ m e) d ps = record { plus = refl; times = refl }
-tree_calm (named x n) d ps = record { plus = refl; times = refl }
-tree_calm (splice_ x a) d ps = record { plus = refl; times = refl }
-tree_calm (setlimit_ b c) d ps = record { plus = refl; times = refl }
-tree_calm (assign_ n o e) d ps = record { plus = refl; times = refl }
-tree_calm (compare_ n o e) d ps = record { plus = refl; times = refl }
-tree_calm (compare_values_ e o f) d ps = record { plus = refl; times = refl }
-tree_calm (among_ x gs) d ps = record { plus = refl; times = refl }
+tree_calm _ d ps = record { plus = refl; times = refl }
 
 tree_no_or : (c : Command) (d : ℕ) (ps : List AtDepth) → first_is no_or (placed_command c d ps) ≡ true
 tree_no_or (bracket rs) d ps = refl
-tree_no_or (simple_ x) d ps = refl
-tree_no_or (literal_ q) d ps = refl
-tree_no_or (name_ n) d ps = refl
 tree_no_or (non_ true n) d ps = refl
-tree_no_or (non_ false n) d ps = refl
-tree_no_or (prefixed p c) d ps = refl
-tree_no_or (counted n e c) d ps = refl
-tree_no_or (move_ m e) d ps = refl
-tree_no_or (named x n) d ps = refl
-tree_no_or (splice_ x a) d ps = refl
-tree_no_or (setlimit_ b c) d ps = refl
-tree_no_or (assign_ n o e) d ps = refl
-tree_no_or (compare_ n o e) d ps = refl
-tree_no_or (compare_values_ e o f) d ps = refl
-tree_no_or (among_ x gs) d ps = refl
+tree_no_or _ d ps = refl
 
 rows_calm : (rs : Rows) (d : ℕ) (ps : List AtDepth) → Calm ps → Calm (placed_rows rs d ps)
 rows_calm no_rows d ps c = c
@@ -253,10 +225,7 @@ plain_runs (grouping n a xs) ps k c j h = (s.name 0 ∷ s.definition ∷ k, refl
 
 plain_calm : (p : Plain) (ps : List AtDepth) → Calm (placed_plain p ps) × (first_is no_or (placed_plain p ps) ≡ true)
 plain_calm (declaration x ns) ps = (record { plus = refl; times = refl }, refl)
-plain_calm (escapes a b) ps = (record { plus = refl; times = refl }, refl)
-plain_calm (macro n b q) ps = (record { plus = refl; times = refl }, refl)
-plain_calm (routine n x os) ps = (record { plus = refl; times = refl }, refl)
-plain_calm (grouping n a xs) ps = (record { plus = refl; times = refl }, refl)
+plain_calm _ ps = (record { plus = refl; times = refl }, refl)
 
 plains_calm : (xs : List Plain) (ps : List AtDepth) → Calm (placed_plains xs ((t.close_, 0) ∷ ps)) × (first_is no_or (placed_plains xs ((t.close_, 0) ∷ ps)) ≡ true)
 plains_calm [] ps = (record { plus = refl; times = refl }, refl)

@@ -3,6 +3,9 @@ use Rattle.std.proofs.Common.{◌≡◌, Bool, true, false, List, [], ◌∷◌,
 use Rattle.sbl_ast.specs.Terminal.{Terminal}
 use Rattle.sbl_ast.specs.Tree.{Argument, written_out, by_name, Expression, expression, Sums, no_sums, sum, Product, product, Scales, no_scales, scale, Factor, negated, bracketed, numeral, variable, fixed, length_of, Entry, entry}
 use Rattle.sbl_ast.specs.Terminal as t
+use Rattle.sbl_parser.specs.declared.role.Role.{Role}
+use Rattle.sbl_parser.specs.declared.role.Role.TheVariants as roles
+use Rattle.sbl_parser.specs.Roles.{role_as, role_of}
 use Rattle.sbl_ast.specs.Spelled.{argument_terminal, spelled_expression, spelled_sums, spelled_product, spelled_scales, spelled_factor, spelled_entry, spelled_entries}
 
 abbrev pub Ts : Type 0
@@ -10,86 +13,32 @@ Ts = List Terminal
 
 -- ---- what a token may begin
 
-pub data Sort : Type 0 where
-  adds multiplies joins begins names strings opens items bases other : Sort
-
-abbrev pub sort_of : Terminal → Sort
-sort_of t.open_ = opens
-sort_of t.close_ = other
-sort_of t.dollar = begins
-sort_of t.as_ = other
-sort_of t.for_ = other
-sort_of t.non = begins
-sort_of t.among = begins
-sort_of t.define = items
-sort_of t.backward_mode = items
-sort_of t.set_limit = begins
-sort_of t.string_def = items
-sort_of t.string_escapes = items
-sort_of t.len_of = other
-sort_of (t.declares o) = items
-sort_of (t.base o) = bases
-sort_of (t.joiner o) = joins
-sort_of (t.simple o) = begins
-sort_of (t.prefix o) = begins
-sort_of (t.count o) = begins
-sort_of (t.move o) = begins
-sort_of (t.naming o) = begins
-sort_of (t.edit o) = begins
-sort_of (t.additive o) = adds
-sort_of (t.multiplicative o) = multiplies
-sort_of (t.assigns o) = other
-sort_of (t.compares o) = other
-sort_of (t.constant o) = other
-sort_of (t.name n) = names
-sort_of (t.number n) = other
-sort_of (t.literal q) = strings
-sort_of (t.inserts a b) = other
-sort_of (t.macro_name n) = other
-sort_of (t.other o) = other
-
-abbrev pub sort : Ts → Sort
-sort [] = other
-sort (x ∷ ts) = sort_of x
-
-abbrev pub is_adds : Sort → Bool
-is_adds adds = true
+abbrev pub is_adds : Role → Bool
+is_adds (roles.Additive o) = true
 is_adds _ = false
 
-abbrev pub is_multiplies : Sort → Bool
-is_multiplies multiplies = true
+abbrev pub is_multiplies : Role → Bool
+is_multiplies (roles.Multiplicative o) = true
 is_multiplies _ = false
 
-abbrev pub is_joins : Sort → Bool
-is_joins joins = true
+abbrev pub is_joins : Role → Bool
+is_joins (roles.Joiner o) = true
 is_joins _ = false
 
--- a command begins so
-abbrev pub is_begin : Sort → Bool
-is_begin begins = true
-is_begin opens = true
-is_begin names = true
-is_begin strings = true
-is_begin _ = false
-
-abbrev pub is_name : Sort → Bool
-is_name names = true
+abbrev pub is_name : Role → Bool
+is_name roles.Name = true
 is_name _ = false
 
-abbrev pub is_string : Sort → Bool
-is_string strings = true
+abbrev pub is_string : Role → Bool
+is_string roles.Literal = true
 is_string _ = false
 
-abbrev pub is_open : Sort → Bool
-is_open opens = true
+abbrev pub is_open : Role → Bool
+is_open roles.Open = true
 is_open _ = false
 
-abbrev pub is_item : Sort → Bool
-is_item items = true
-is_item _ = false
-
-abbrev pub Never : (Sort → Bool) → Ts → Type 0
-Never f ts = f (sort ts) ≡ false
+abbrev pub Never : (Role → Bool) → Ts → Type 0
+Never f ts = f (role_of ts) ≡ false
 
 -- what may follow an expression
 pub record Ends (ts : Ts) : Type 0 where
@@ -101,8 +50,8 @@ pub record EndsRow (ts : Ts) : Type 0 where
   pub ends : Ends ts
   pub joins_not : Never is_joins ts
 
-pub differ : (f : Sort → Bool) (a b : Ts) → Never f a → f (sort b) ≡ true → a ≡ b → ⊥
-differ f a b n y e = let g : f (sort a) ≡ f (sort b) = ap (λ (r : Ts). f (sort r)) e in cc
+pub differ : (f : Role → Bool) (a b : Ts) → Never f a → f (role_of b) ≡ true → a ≡ b → ⊥
+differ f a b n y e = let g : f (role_of a) ≡ f (role_of b) = ap (λ (r : Ts). f (role_of r)) e in cc
 
 pub same_argument : (a b : Argument) → argument_terminal a ≡ argument_terminal b → a ≡ b
 same_argument (written_out p) (written_out q) e = cc
@@ -115,7 +64,7 @@ tail x y a b e = cc
 
 -- ---- arithmetic
 
-pub calm : (x : Terminal) (ts : Ts) → is_adds (sort_of x) ≡ false → is_multiplies (sort_of x) ≡ false → Ends (x ∷ ts)
+pub calm : (x : Terminal) (ts : Ts) → is_adds (role_as x) ≡ false → is_multiplies (role_as x) ≡ false → Ends (x ∷ ts)
 calm x ts a b = record { adds_not = a; multiplies_not = b }
 
 pub sums_calm : (ss : Sums) (rest : Ts) → Never is_multiplies rest → Never is_multiplies (spelled_sums ss rest)
@@ -176,7 +125,7 @@ same_entry (entry p None) (entry q (Some n)) a b ha hb e = absurd (differ is_nam
 same_entry (entry p (Some n)) (entry q None) a b ha hb e = absurd (differ is_name b (t.name n ∷ a) hb refl (sym (tail _ _ _ _ e)))
 same_entry (entry p (Some n)) (entry q (Some m)) a b ha hb e = (cc, cc)
 
-pub entry_string : (x : Entry) (rest : Ts) → is_string (sort (spelled_entry x rest)) ≡ true
+pub entry_string : (x : Entry) (rest : Ts) → is_string (role_of (spelled_entry x rest)) ≡ true
 entry_string (entry q None) rest = refl
 entry_string (entry q (Some n)) rest = refl
 

@@ -4,48 +4,24 @@ use Rattle.sbl_ast.specs.declared.tree.Base.{Base}
 use Rattle.sbl_ast.specs.Tree.{QuotedText, Argument, written_out, by_name, Entry, Command, bracket, simple_, literal_, name_, non_, prefixed, counted, move_, named, splice_, setlimit_, assign_, compare_, compare_values_, among_, Rows, no_rows, row, Others, no_others, joined, Starter, no_starter, starter, Groups, bare, group, Term, term, Plain, declaration, escapes, macro, routine, grouping, Item, plain, backward}
 use Rattle.sbl_ast.specs.Terminal as t
 use Rattle.sbl_ast.specs.Spelled.{argument_terminal, spelled_expression, spelled_entries, spelled_command, spelled_rows, spelled_others, spelled_starter, spelled_groups, spelled_names, spelled_base, spelled_terms, spelled_plain, spelled_plains, spelled_item, spelled_items, script_tokens}
-use Rattle.sbl_parser.proofs.TokenStarts.{Ts, sort, is_adds, is_joins, is_begin, is_name, is_string, is_open, is_item, Never, Ends, EndsRow, differ, same_argument, tail, calm, same_expression, entry_string, entry_no_open, EndsEntries, same_entries}
+use Rattle.sbl_parser.proofs.TokenStarts.{Ts, is_adds, is_joins, is_name, is_string, is_open, Never, Ends, EndsRow, differ, same_argument, tail, calm, same_expression, entry_string, entry_no_open, EndsEntries, same_entries}
+use Rattle.sbl_parser.specs.Roles.{role_of}
+use Rattle.sbl_parser.specs.Starts.{begins_command, begins_item}
 
 -- ---- commands
 
 close_ends_row : (ts : Ts) → EndsRow (t.close_ ∷ ts)
 close_ends_row ts = record { ends = calm t.close_ ts refl refl; joins_not = refl }
 
-tree_begins : (c : Command) (rest : Ts) → is_begin (sort (spelled_command c rest)) ≡ true
+tree_begins : (c : Command) (rest : Ts) → begins_command (role_of (spelled_command c rest)) ≡ true
 tree_begins (bracket rs) rest = refl
-tree_begins (simple_ x) rest = refl
-tree_begins (literal_ q) rest = refl
-tree_begins (name_ n) rest = refl
 tree_begins (non_ true n) rest = refl
-tree_begins (non_ false n) rest = refl
-tree_begins (prefixed p c) rest = refl
-tree_begins (counted n e c) rest = refl
-tree_begins (move_ m e) rest = refl
-tree_begins (named x n) rest = refl
-tree_begins (splice_ x a) rest = refl
-tree_begins (setlimit_ b c) rest = refl
-tree_begins (assign_ n o e) rest = refl
-tree_begins (compare_ n o e) rest = refl
-tree_begins (compare_values_ e o f) rest = refl
-tree_begins (among_ x gs) rest = refl
+tree_begins _ rest = refl
 
 tree_ends : (c : Command) (rest : Ts) → EndsRow (spelled_command c rest)
 tree_ends (bracket rs) rest = record { ends = record { adds_not = refl; multiplies_not = refl }; joins_not = refl }
-tree_ends (simple_ x) rest = record { ends = record { adds_not = refl; multiplies_not = refl }; joins_not = refl }
-tree_ends (literal_ q) rest = record { ends = record { adds_not = refl; multiplies_not = refl }; joins_not = refl }
-tree_ends (name_ n) rest = record { ends = record { adds_not = refl; multiplies_not = refl }; joins_not = refl }
 tree_ends (non_ true n) rest = record { ends = record { adds_not = refl; multiplies_not = refl }; joins_not = refl }
-tree_ends (non_ false n) rest = record { ends = record { adds_not = refl; multiplies_not = refl }; joins_not = refl }
-tree_ends (prefixed p c) rest = record { ends = record { adds_not = refl; multiplies_not = refl }; joins_not = refl }
-tree_ends (counted n e c) rest = record { ends = record { adds_not = refl; multiplies_not = refl }; joins_not = refl }
-tree_ends (move_ m e) rest = record { ends = record { adds_not = refl; multiplies_not = refl }; joins_not = refl }
-tree_ends (named x n) rest = record { ends = record { adds_not = refl; multiplies_not = refl }; joins_not = refl }
-tree_ends (splice_ x a) rest = record { ends = record { adds_not = refl; multiplies_not = refl }; joins_not = refl }
-tree_ends (setlimit_ b c) rest = record { ends = record { adds_not = refl; multiplies_not = refl }; joins_not = refl }
-tree_ends (assign_ n o e) rest = record { ends = record { adds_not = refl; multiplies_not = refl }; joins_not = refl }
-tree_ends (compare_ n o e) rest = record { ends = record { adds_not = refl; multiplies_not = refl }; joins_not = refl }
-tree_ends (compare_values_ e o f) rest = record { ends = record { adds_not = refl; multiplies_not = refl }; joins_not = refl }
-tree_ends (among_ x gs) rest = record { ends = record { adds_not = refl; multiplies_not = refl }; joins_not = refl }
+tree_ends _ rest = record { ends = record { adds_not = refl; multiplies_not = refl }; joins_not = refl }
 
 rows_end : (rs : Rows) (rest : Ts) → EndsRow rest → EndsRow (spelled_rows rs rest)
 rows_end no_rows rest h = h
@@ -60,7 +36,7 @@ groups_no_open (bare []) rest h = h
 groups_no_open (bare (x ∷ xs)) rest h = entry_no_open x _
 groups_no_open (group x xs rs gs) rest h = entry_no_open x _
 
-groups_string : (x : Entry) (xs : List Entry) (rest : Ts) → is_string (sort (spelled_entries (x ∷ xs) rest)) ≡ true
+groups_string : (x : Entry) (xs : List Entry) (rest : Ts) → is_string (role_of (spelled_entries (x ∷ xs) rest)) ≡ true
 groups_string x xs rest = entry_string x _
 
 after_block : (ts : Ts) → EndsEntries (t.open_ ∷ ts)
@@ -149,10 +125,10 @@ mutual
   same_tree (non_ false n) _ a b ha hb e = absurd cc
   same_tree _ _ a b ha hb e = absurd cc
 
-  same_rows : (rs qs : Rows) (a b : Ts) → EndsRow a → EndsRow b → Never is_begin a → Never is_begin b → spelled_rows rs a ≡ spelled_rows qs b → (rs ≡ qs) × (a ≡ b)
+  same_rows : (rs qs : Rows) (a b : Ts) → EndsRow a → EndsRow b → Never begins_command a → Never begins_command b → spelled_rows rs a ≡ spelled_rows qs b → (rs ≡ qs) × (a ≡ b)
   same_rows no_rows no_rows a b ha hb na nb e = (refl, e)
-  same_rows no_rows (row u ps qs) a b ha hb na nb e = absurd (differ is_begin a (spelled_command u (spelled_others ps (spelled_rows qs b))) na (tree_begins u _) e)
-  same_rows (row c os rs) no_rows a b ha hb na nb e = absurd (differ is_begin b (spelled_command c (spelled_others os (spelled_rows rs a))) nb (tree_begins c _) (sym e))
+  same_rows no_rows (row u ps qs) a b ha hb na nb e = absurd (differ begins_command a (spelled_command u (spelled_others ps (spelled_rows qs b))) na (tree_begins u _) e)
+  same_rows (row c os rs) no_rows a b ha hb na nb e = absurd (differ begins_command b (spelled_command c (spelled_others os (spelled_rows rs a))) nb (tree_begins c _) (sym e))
   same_rows (row c os rs) (row u ps qs) a b ha hb na nb e =
       let ra = rows_end rs a ha in
       let rb = rows_end qs b hb in
@@ -223,7 +199,7 @@ same_base (Some x) (Some y) p q a b e = (cc, cc, cc)
 -- what may follow an item
 record EndsItem (ts : Ts) : Type 0 where
   pub row : EndsRow ts
-  pub item_not : Never is_item ts
+  pub item_not : Never begins_item ts
 
 as_argument : (p : Argument) (r : Ts) (c : Ts) → argument_terminal p ∷ r ≡ t.as_ ∷ c → ⊥
 as_argument (written_out q) r c e = cc
@@ -256,19 +232,13 @@ same_plain (grouping n p xs) (grouping m q ys) a b ha hb e =
     (cc, r.1)
 same_plain _ _ a b ha hb e = absurd cc
 
-plain_item : (x : Plain) (rest : Ts) → is_item (sort (spelled_plain x rest)) ≡ true
+plain_item : (x : Plain) (rest : Ts) → begins_item (role_of (spelled_plain x rest)) ≡ true
 plain_item (declaration k ns) rest = refl
-plain_item (escapes p q) rest = refl
-plain_item (macro n x p) rest = refl
-plain_item (routine n c os) rest = refl
-plain_item (grouping n p xs) rest = refl
+plain_item _ rest = refl
 
 plain_ends : (x : Plain) (rest : Ts) → EndsRow (spelled_plain x rest)
 plain_ends (declaration k ns) rest = record { ends = record { adds_not = refl; multiplies_not = refl }; joins_not = refl }
-plain_ends (escapes p q) rest = record { ends = record { adds_not = refl; multiplies_not = refl }; joins_not = refl }
-plain_ends (macro n x p) rest = record { ends = record { adds_not = refl; multiplies_not = refl }; joins_not = refl }
-plain_ends (routine n c os) rest = record { ends = record { adds_not = refl; multiplies_not = refl }; joins_not = refl }
-plain_ends (grouping n p xs) rest = record { ends = record { adds_not = refl; multiplies_not = refl }; joins_not = refl }
+plain_ends _ rest = record { ends = record { adds_not = refl; multiplies_not = refl }; joins_not = refl }
 
 plains_end : (xs : List Plain) (rest : Ts) → EndsRow rest → EndsRow (spelled_plains xs rest)
 plains_end [] rest h = h
@@ -276,8 +246,8 @@ plains_end (x ∷ xs) rest h = plain_ends x _
 
 same_plains : (xs ys : List Plain) (a b : Ts) → EndsItem a → EndsItem b → spelled_plains xs a ≡ spelled_plains ys b → (xs ≡ ys) × (a ≡ b)
 same_plains [] [] a b ha hb e = (refl, e)
-same_plains [] (y ∷ ys) a b ha hb e = absurd (differ is_item a (spelled_plain y (spelled_plains ys b)) ha.item_not (plain_item y _) e)
-same_plains (x ∷ xs) [] a b ha hb e = absurd (differ is_item b (spelled_plain x (spelled_plains xs a)) hb.item_not (plain_item x _) (sym e))
+same_plains [] (y ∷ ys) a b ha hb e = absurd (differ begins_item a (spelled_plain y (spelled_plains ys b)) ha.item_not (plain_item y _) e)
+same_plains (x ∷ xs) [] a b ha hb e = absurd (differ begins_item b (spelled_plain x (spelled_plains xs a)) hb.item_not (plain_item x _) (sym e))
 same_plains (x ∷ xs) (y ∷ ys) a b ha hb e =
     let m = same_plain x y (spelled_plains xs a) (spelled_plains ys b) (plains_end xs a ha.row) (plains_end ys b hb.row) e in
     let n = same_plains xs ys a b ha hb m.1 in
@@ -288,10 +258,7 @@ after_plains ts = record { row = close_ends_row ts; item_not = refl }
 
 plain_backward : (x : Plain) (a b : Ts) → spelled_plain x a ≡ t.backward_mode ∷ b → ⊥
 plain_backward (declaration k ns) a b e = cc
-plain_backward (escapes p q) a b e = cc
-plain_backward (macro n x p) a b e = cc
-plain_backward (routine n c os) a b e = cc
-plain_backward (grouping n p xs) a b e = cc
+plain_backward _ a b e = cc
 
 same_item : (x y : Item) (a b : Ts) → EndsRow a → EndsRow b → spelled_item x a ≡ spelled_item y b → (x ≡ y) × (a ≡ b)
 same_item (plain x) (plain y) a b ha hb e = let m = same_plain x y a b ha hb e in (ap (λ (z : Plain). plain z) m.0, m.1)
@@ -311,11 +278,7 @@ items_end (x ∷ xs) = item_ends x _
 
 some_item : (x : Item) (rest : Ts) → spelled_item x rest ≡ [] → ⊥
 some_item (plain (declaration k ns)) rest e = cc
-some_item (plain (escapes p q)) rest e = cc
-some_item (plain (macro n x p)) rest e = cc
-some_item (plain (routine n c os)) rest e = cc
-some_item (plain (grouping n p xs)) rest e = cc
-some_item (backward xs) rest e = cc
+some_item _ rest e = cc
 
 -- two trees with the same tokens are one
 pub one_tree : (xs ys : List Item) → script_tokens xs ≡ script_tokens ys → xs ≡ ys

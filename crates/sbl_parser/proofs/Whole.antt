@@ -1,5 +1,5 @@
 -- The whole reading, from its first stack.
-use Rattle.std.proofs.Common.{◌≡◌, ◌⊎◌, inl, inr, ℕ, zero, suc, ◌+◌, ◌-◌, List, [], ◌∷◌, ◌++◌, length, drop, Option, Some, None, refl, sym, ap, subst, ◌∙◌, arith, length-append, length-drop}
+use Rattle.std.proofs.Common.{◌≡◌, ◌⊎◌, inl, inr, ℕ, zero, suc, ◌+◌, ◌-◌, List, [], ◌∷◌, ◌++◌, length, drop, Option, Some, refl, sym, ap, subst, ◌∙◌, arith, length-append, length-drop}
 use Rattle.std.proofs.lemmas.List.{length-map}
 use Rattle.sbl_token.specs.declared.token.Token.{Token}
 use Rattle.sbl_text.specs.declared.fault.ScriptFault.TheVariants as script
@@ -20,7 +20,8 @@ use Rattle.sbl_parser.specs.Gives.{Fails, error_for}
 use Rattle.sbl_parser.specs.FaultOffsets.{IsFaultOf, fault_at_offset}
 use Rattle.sbl_parser.specs.Reading as reading
 use Rattle.sbl_parser.proofs.Lexed.{left_lexed, syntax_to, too_deep_to, out_of_profile_to}
-use Rattle.sbl_parser.proofs.Faults.{is_read, is_syntax, is_too_deep, is_out_of_profile, places_tokens, body_tokens, tree_tokens, terms_tokens}
+use Rattle.sbl_ast.proofs.PlacedTokens.{places_tokens, body_tokens, tree_tokens, terms_tokens}
+use Rattle.sbl_parser.proofs.Faults.{is_read, is_syntax, is_too_deep, is_out_of_profile}
 
 abbrev Ts : Type 0
 Ts = List Terminal
@@ -56,22 +57,16 @@ left_of ts before rest n parts is =
 
 -- the fault of an error
 syntax_for : (f : Option Fault) (n : ℕ) → error_for f ≡ Some (errors.Syntax n) → (rest : Ts) × (f ≡ Some (syntax rest)) × (length rest ≡ n)
-syntax_for None n e = absurd cc
 syntax_for (Some (syntax rest)) n e = let is : length rest ≡ n = cc in (rest, refl, is)
-syntax_for (Some (too_deep rest)) n e = absurd cc
-syntax_for (Some (no_operator rest)) n e = absurd cc
+syntax_for _ n e = absurd cc
 
 too_deep_for : (f : Option Fault) (n : ℕ) → error_for f ≡ Some (errors.TooDeep n) → (rest : Ts) × (f ≡ Some (too_deep rest)) × (length rest ≡ n)
-too_deep_for None n e = absurd cc
-too_deep_for (Some (syntax rest)) n e = absurd cc
 too_deep_for (Some (too_deep rest)) n e = let is : length rest ≡ n = cc in (rest, refl, is)
-too_deep_for (Some (no_operator rest)) n e = absurd cc
+too_deep_for _ n e = absurd cc
 
 no_operator_for : (f : Option Fault) (n : ℕ) → error_for f ≡ Some (errors.OutOfProfile n) → (rest : Ts) × (f ≡ Some (no_operator rest)) × (length rest ≡ n)
-no_operator_for None n e = absurd cc
-no_operator_for (Some (syntax rest)) n e = absurd cc
-no_operator_for (Some (too_deep rest)) n e = absurd cc
 no_operator_for (Some (no_operator rest)) n e = let is : length rest ≡ n = cc in (rest, refl, is)
+no_operator_for _ n e = absurd cc
 
 pub fault_of : (w : Text) (ts : List Token) (end : ℕ) (e : ReadError) → Fails e (fault (terminals_of ts) (first_stack w)) → (fault_at_offset ts end e ≡ script.OutOfMemory) ⊎ IsFaultOf w ts end (fault_at_offset ts end e)
 fault_of w ts end errors.Memory h = inl refl

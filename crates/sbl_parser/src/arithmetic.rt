@@ -10,7 +10,7 @@ ghost use Rattle.sbl_ast.specs.View.{view_expression};
 ghost use Rattle.sbl_ast.specs.inside.ViewParts.{view_product, view_factor};
 ghost use Rattle.sbl_parser.specs.Gives.{ahead, Reads};
 
-use crate::cursor::{Cursor, Delimiter, chain};
+use crate::cursor::{Cursor, Delimiter, chain, whole_chain};
 use crate::error::{MAX_DEPTH, ReadError, ReadResult};
 use crate::role::Role;
 use crate::tokens::argument;
@@ -22,9 +22,7 @@ pub fn expression(cursor: &mut Cursor<'_, '_>, depth: u8) -> ReadResult<Expressi
     requires { depth ≤ max_depth }
     ensures { Reads (wanted.expression depth []) (λ x. spelled_expression (view_expression x)) (ahead cursor.old) result (ahead cursor.new) }
 {
-    let (first, others) =
-        chain!(cursor, depth, product; Additive => NextProduct { operator, product });
-    Ok(Expression { first, others })
+    whole_chain!(Expression: cursor, depth, product; Additive => NextProduct { operator, product })
 }
 
 /// Parses a product.
@@ -33,9 +31,7 @@ fn product(cursor: &mut Cursor<'_, '_>, depth: u8) -> ReadResult<Product>
     requires { depth ≤ max_depth }
     ensures { Reads (wanted.factor depth ∷ wanted.scales depth ∷ []) (λ x. spelled_product (view_product x)) (ahead cursor.old) result (ahead cursor.new) }
 {
-    let (first, others) =
-        chain!(cursor, depth, factor; Multiplicative => NextFactor { operator, factor });
-    Ok(Product { first, others })
+    whole_chain!(Product: cursor, depth, factor; Multiplicative => NextFactor { operator, factor })
 }
 
 /// Parses a factor.

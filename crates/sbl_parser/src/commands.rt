@@ -13,7 +13,7 @@ ghost use Rattle.sbl_parser.specs.Gives.{ahead, Reads};
 ghost use Rattle.std.specs.Prelude.{map};
 
 use crate::arithmetic::expression;
-use crate::cursor::{Cursor, Delimiter, chain, push_read};
+use crate::cursor::{Cursor, Delimiter, chain, push_read, whole_chain};
 use crate::entries::{entries, entry};
 use crate::error::{MAX_DEPTH, ReadError, ReadResult};
 use crate::leaves::{dollar, non};
@@ -250,6 +250,5 @@ pub fn row(cursor: &mut Cursor<'_, '_>, depth: u8) -> ReadResult<RowOfCommands>
     requires { depth ≤ max_depth + 1 }
     ensures { Reads (wanted.command depth ∷ wanted.others depth ∷ []) (λ x rest. spelled_command (view_row x).0 (spelled_others (view_row x).1 rest)) (ahead cursor.old) result (ahead cursor.new) }
 {
-    let (first, others) = chain!(cursor, depth, command; Joiner => NextCommand { joiner, command });
-    Ok(RowOfCommands { first, others })
+    whole_chain!(RowOfCommands: cursor, depth, command; Joiner => NextCommand { joiner, command })
 }

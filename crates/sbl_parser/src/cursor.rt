@@ -182,6 +182,14 @@ macro_rules! chain {
     }};
 }
 
+/// Reads a whole of operands, as an expression.
+macro_rules! whole_chain {
+    ($whole:ident: $($chain:tt)*) => {{
+        let (first, others) = chain!($($chain)*);
+        Ok($whole { first, others })
+    }};
+}
+
 /// Reads an item and appends it. The items are dropped by a call if this fails, which is cheap to prove.
 macro_rules! push_read {
     ($items:ident, $read:expr) => {
@@ -201,5 +209,20 @@ macro_rules! push_read {
     };
 }
 
+/// Returns what was read if no token is left. It is dropped by a call if one is.
+macro_rules! at_end {
+    ($cursor:ident, $found:ident) => {
+        match $cursor.end() {
+            Ok(()) => Ok($found),
+            Err(error) => {
+                drop($found);
+                Err(error)
+            }
+        }
+    };
+}
+
+pub(crate) use at_end;
 pub(crate) use chain;
 pub(crate) use push_read;
+pub(crate) use whole_chain;

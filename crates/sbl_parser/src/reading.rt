@@ -19,7 +19,7 @@ ghost use Rattle.sbl_parser.specs.Steps.{fault};
 ghost use Rattle.sbl_parser.specs.Steps as wanted;
 
 use crate::commands::{among, row};
-use crate::cursor::Cursor;
+use crate::cursor::{Cursor, at_end};
 use crate::error::ReadError;
 use crate::items::{items, terms};
 use crate::role::Role;
@@ -88,13 +88,7 @@ fn all_items(alloc: Global, tokens: &[Token<'_>]) -> Result<Vec<ScriptItem>, Rea
 {
     let mut cursor = Cursor::new(alloc, tokens);
     let found = items(&mut cursor)?;
-    match cursor.end() {
-        Ok(()) => Ok(found),
-        Err(error) => {
-            drop(found);
-            Err(error)
-        }
-    }
+    at_end!(cursor, found)
 }
 
 /// Parses all tokens as the body of a routine. `end` is the length of the text in bytes.
@@ -121,13 +115,7 @@ fn whole_body(alloc: Global, tokens: &[Token<'_>]) -> Result<RowOfCommands, Read
 {
     let mut cursor = Cursor::new(alloc, tokens);
     let found = row(&mut cursor, 1)?;
-    match cursor.end() {
-        Ok(()) => Ok(found),
-        Err(error) => {
-            drop(found);
-            Err(error)
-        }
-    }
+    at_end!(cursor, found)
 }
 
 /// Parses all tokens as an among at nesting depth `depth`. `end` is the length of the text in bytes.
@@ -161,13 +149,7 @@ fn whole_among(alloc: Global, tokens: &[Token<'_>], depth: u8) -> Result<Among, 
         return Err(ReadError::Syntax(cursor.count_ahead()));
     };
     let found = among(&mut cursor, depth)?;
-    match cursor.end() {
-        Ok(()) => Ok(found),
-        Err(error) => {
-            drop(found);
-            Err(error)
-        }
-    }
+    at_end!(cursor, found)
 }
 
 /// Parses all tokens as the terms of a grouping and returns the first one and those after it. `end` is the length of
@@ -195,13 +177,7 @@ fn whole_terms(alloc: Global, tokens: &[Token<'_>]) -> Result<(Argument, Vec<Ter
 {
     let mut cursor = Cursor::new(alloc, tokens);
     let found = terms(&mut cursor)?;
-    match cursor.end() {
-        Ok(()) => Ok(found),
-        Err(error) => {
-            drop(found);
-            Err(error)
-        }
-    }
+    at_end!(cursor, found)
 }
 
 /// Two trees with the same tokens are equal. The same holds for the trees of each text that replaces a part of a
