@@ -154,6 +154,7 @@ fn insert(set: &mut IndexSet<Vec<char>, WordKeys>, word: Vec<char>) -> Result<()
 }
 
 /// Returns whether a set has as many words as a vocabulary can have, and not this word. Does not allocate.
+#[inline(always)]
 pub(crate) fn has_no_room(set: &IndexSet<Vec<char>, WordKeys>, word: &[char]) -> bool
     ensures { result ≡ (nat_le max_words (length (texts_of set.now.keys)) && not (is_word word.now (texts_of set.now.keys))) }
 {

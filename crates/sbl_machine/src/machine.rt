@@ -367,6 +367,7 @@ impl<S: AmongSearch> Machine<S> {
 
 /// Returns how a run ended, with its stem in place of `stem`. Returns `AllocError` if it ended because an allocation failed,
 /// or if one fails.
+#[inline(always)]
 fn end_of(
     end: Result<bool, Halt>,
     limit: u32,

@@ -103,6 +103,7 @@ impl State {
 
     /// Starts a run of a word with this many steps, whatever ran before in these buffers. The time does not depend on how
     /// many variables the program has. Returns `AllocError` if an allocation fails.
+    #[inline(always)]
     pub fn restart(
         &mut self,
         program: &Program,
