@@ -133,8 +133,8 @@ moves-same t f rows = any-made t (λ r. move_of (f r.word) r.outcome) rows ∙ a
     by (Some o) r = refl
 
 -- the moves of the exchanged lists are the either_way ones
-moves-either_way : (before after : List Row) → HasOneRowEach before → HasOneRowEach after → (t : Pair → Bool) → list_any t (moves_of (outcome_in before) after) ≡ list_any (λ m. t (flip m)) (moves_of (outcome_in after) before)
-moves-either_way before after one other t =
+moves-turned : (before after : List Row) → HasOneRowEach before → HasOneRowEach after → (t : Pair → Bool) → list_any t (moves_of (outcome_in before) after) ≡ list_any (λ m. t (flip m)) (moves_of (outcome_in after) before)
+moves-turned before after one other t =
     moves-same t (outcome_in before) after
     ∙ exchange_sides before after one other (of_moves t)
     ∙ any-same (λ r. with_other (swap_sides (of_moves t)) (outcome_in after r.word) r) (λ r. with_other (of_moves (λ m. t (flip m))) (outcome_in after r.word) r) (λ r. by (outcome_in after r.word) r) before
@@ -243,20 +243,20 @@ renamed-pairs test ps qs h =
         at p (h (λ q. bytes_eq p.1 q.0) ∙ there (λ q. bytes_eq p.1 q.1) ((bytes_eq-Decides p.1 p.1).1 refl)) (in_order (members_of p.0 ps))
         (any-class (bytes_eq p.1) ps p.0 ∙ there (λ q. bytes_eq p.0 q.0 && bytes_eq p.1 q.1) (λ i. (bytes_eq-Decides p.0 p.0).1 refl i && (bytes_eq-Decides p.1 p.1).1 refl i))
 
-renamed-either_way : (test : Change → Bool) (ps qs : List Pair) → ((t : Pair → Bool) → list_any t qs ≡ list_any (λ p. t (flip p)) ps)
+renamed-turned : (test : Change → Bool) (ps qs : List Pair) → ((t : Pair → Bool) → list_any t qs ≡ list_any (λ p. t (flip p)) ps)
     → list_any test (filter_map (λ c. class_renaming (pair_classes qs) c c.members) (pair_classes ps)) ≡ list_any (back test) (filter_map (λ c. class_renaming (pair_classes ps) c c.members) (pair_classes qs))
-renamed-either_way test ps qs h =
+renamed-turned test ps qs h =
     renamed-pairs test ps qs h
     ∙ sym (h (λ q. is_renamed ps qs (flip q) && test (Renamed q.1 q.0)))
     ∙ any-same (λ q. is_renamed ps qs (flip q) && test (Renamed q.1 q.0)) (λ q. is_renamed qs ps q && test (Renamed q.1 q.0))
-    (λ q. ap (λ (b : Bool). b && test (Renamed q.1 q.0)) ((λ i. not (bytes_eq-back q.1 q.0 i) && and_either_way (has_one ps q.1) (has_one qs q.0) i))) qs
+    (λ q. ap (λ (b : Bool). b && test (Renamed q.1 q.0)) ((λ i. not (bytes_eq-back q.1 q.0 i) && and_turned (has_one ps q.1) (has_one qs q.0) i))) qs
     ∙ sym (renamed-pairs (back test) qs ps (λ t. sym (h (λ p. t (flip p)))))
   where
-    and_either_way : (a b : Bool) → (a && b) ≡ (b && a)
-    and_either_way true true = refl
-    and_either_way true false = refl
-    and_either_way false true = refl
-    and_either_way false false = refl
+    and_turned : (a b : Bool) → (a && b) ≡ (b && a)
+    and_turned true true = refl
+    and_turned true false = refl
+    and_turned false true = refl
+    and_turned false false = refl
 
 -- words that are added, the other way
 added-removed : (test : Change → Bool) (f : List ℕ → Option Outcome') (rows : List Row) → list_any test (filter_map (λ r. word_addition (f r.word) r) rows) ≡ list_any (back test) (filter_map (λ r. word_removal (f r.word) r) rows)
@@ -301,9 +301,9 @@ changed-same test f rows = any-made test (λ r. outcome_change (f r.word) r) row
     by None r = refl
     by (Some o) r = at (same_outcome o r.outcome) (Changed r.word o r.outcome)
 
-changed-either_way : (test : Change → Bool) (before after : List Row) → HasOneRowEach before → HasOneRowEach after
+changed-turned : (test : Change → Bool) (before after : List Row) → HasOneRowEach before → HasOneRowEach after
     → list_any test (filter_map (λ r. outcome_change (outcome_in before r.word) r) after) ≡ list_any (back test) (filter_map (λ r. outcome_change (outcome_in after r.word) r) before)
-changed-either_way test before after one other =
+changed-turned test before after one other =
     changed-same test (outcome_in before) after
     ∙ exchange_sides before after one other (of_changes test)
     ∙ any-same (λ r. with_other (swap_sides (of_changes test)) (outcome_in after r.word) r) (λ r. with_other (of_changes (back test)) (outcome_in after r.word) r) (λ r. by (outcome_in after r.word) r) before
@@ -315,11 +315,11 @@ changed-either_way test before after one other =
 
 -- ---- all changes
 
-or_either_way : (a b : Bool) → (a || b) ≡ (b || a)
-or_either_way true true = refl
-or_either_way true false = refl
-or_either_way false true = refl
-or_either_way false false = refl
+or_turned : (a b : Bool) → (a || b) ≡ (b || a)
+or_turned true true = refl
+or_turned true false = refl
+or_turned false true = refl
+or_turned false false = refl
 
 parts : (test : Change → Bool) (a b c d e f : List Change) → list_any test (((a ++ b) ++ c) ++ ((d ++ e) ++ f))
     ≡ (((list_any test a || list_any test b) || list_any test c) || ((list_any test d || list_any test e) || list_any test f))
@@ -328,14 +328,14 @@ parts test a b c d e f =
     ∙ (λ i. (any-append test (a ++ b) c ∙ ap (λ (x : Bool). x || list_any test c) (any-append test a b)) i
     || (any-append test (d ++ e) f ∙ ap (λ (x : Bool). x || list_any test f) (any-append test d e)) i)
 
-pub either_way_changes : ExchangedListsTurnChanges
-either_way_changes before after one other test =
+pub turned_changes : ExchangedListsTurnChanges
+turned_changes before after one other test =
     let moves : List Pair = moves_of (outcome_in before) after in
     let back_moves : List Pair = moves_of (outcome_in after) before in
     let old : pair_classes moves ≡ pair_classes (moves_back back_moves) =
-    classes-same moves (moves_back back_moves) (λ t. moves-either_way before after one other t ∙ sym (any-map flip t back_moves)) in
+    classes-same moves (moves_back back_moves) (λ t. moves-turned before after one other t ∙ sym (any-map flip t back_moves)) in
     let new : pair_classes (moves_back moves) ≡ pair_classes back_moves =
-    classes-same (moves_back moves) back_moves (λ t. any-map flip t moves ∙ moves-either_way before after one other (λ m. t (flip m))) in
+    classes-same (moves_back moves) back_moves (λ t. any-map flip t moves ∙ moves-turned before after one other (λ m. t (flip m))) in
     let a : List Change = filter_map (λ r. word_addition (outcome_in before r.word) r) after in
     let b : List Change = filter_map (λ r. word_removal (outcome_in after r.word) r) before in
     let c : List Change = filter_map (λ r. outcome_change (outcome_in before r.word) r) after in
@@ -349,15 +349,15 @@ either_way_changes before after one other test =
     let e' : List Change = filter_map (λ k. class_merger k k.members) (pair_classes (moves_back back_moves)) in
     let f' : List Change = filter_map (λ k. class_renaming (pair_classes (moves_back back_moves)) k k.members) (pair_classes back_moves) in
     let ab : (list_any test a || list_any test b) ≡ (list_any (back test) a' || list_any (back test) b') =
-    (λ i. added-removed test (outcome_in before) after i || removed-added test (outcome_in after) before i) ∙ or_either_way (list_any (back test) b') (list_any (back test) a') in
+    (λ i. added-removed test (outcome_in before) after i || removed-added test (outcome_in after) before i) ∙ or_turned (list_any (back test) b') (list_any (back test) a') in
     let de : (list_any test d || list_any test e) ≡ (list_any (back test) d' || list_any (back test) e') =
     (λ i. (split-merged test (pair_classes moves) ∙ ap (λ (cs : List Class). list_any (back test) (filter_map (λ k. class_merger k k.members) cs)) old) i
     || (merged-split test (pair_classes (moves_back moves)) ∙ ap (λ (cs : List Class). list_any (back test) (filter_map (λ k. class_split k k.members) cs)) new) i)
-    ∙ or_either_way (list_any (back test) e') (list_any (back test) d') in
+    ∙ or_turned (list_any (back test) e') (list_any (back test) d') in
     let ff : list_any test f ≡ list_any (back test) f' =
     (λ i. list_any test (filter_map (λ k. class_renaming (new i) k k.members) (pair_classes moves)))
-    ∙ renamed-either_way test moves back_moves (λ t. moves-either_way after before other one t)
+    ∙ renamed-turned test moves back_moves (λ t. moves-turned after before other one t)
     ∙ (λ i. list_any (back test) (filter_map (λ k. class_renaming (old i) k k.members) (pair_classes back_moves))) in
     parts test a b c d e f
-    ∙ (λ i. (ab i || changed-either_way test before after one other i) || (de i || ff i))
+    ∙ (λ i. (ab i || changed-turned test before after one other i) || (de i || ff i))
     ∙ sym (parts (back test) a' b' c' d' e' f')
