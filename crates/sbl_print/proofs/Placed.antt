@@ -2,7 +2,7 @@
 use Rattle.std.proofs.Common.{◌≡◌, ℕ, List, [], ◌∷◌, ◌++◌, map, refl, sym, ap, ◌∙◌}
 use Rattle.std.specs.List.{join_by}
 use Rattle.sbl_text.specs.SpacedTokens.{lexeme_text}
-use Rattle.sbl_ast.specs.Terminal.{lexeme_as}
+use Rattle.sbl_ast.specs.Terminal.{Terminal, lexeme_as}
 use Rattle.sbl_ast.specs.Tree.{Plain}
 use Rattle.sbl_ast.specs.Spelled.{spelled_plain}
 use Rattle.sbl_ast.specs.TerminalPlaces.{placed_plain}
