@@ -123,7 +123,20 @@ fn same_factor(one: &Factor, other: &Factor) -> bool
         (Factor::Name(one), Factor::Name(other)) => one.as_str() == other.as_str(),
         (Factor::Constant(one), Factor::Constant(other)) => *one == *other,
         (Factor::LenOf(one), Factor::LenOf(other)) => same_argument(one, other),
-        _ => false,
+        (
+            Factor::Minus(_)
+            | Factor::Bracket(_)
+            | Factor::Number(_)
+            | Factor::Name(_)
+            | Factor::Constant(_)
+            | Factor::LenOf(_),
+            Factor::Minus(_)
+            | Factor::Bracket(_)
+            | Factor::Number(_)
+            | Factor::Name(_)
+            | Factor::Constant(_)
+            | Factor::LenOf(_),
+        ) => false,
     }
 }
 
