@@ -132,7 +132,7 @@ moves-same t f rows = any-made t (λ r. move_of (f r.word) r.outcome) rows ∙ a
     by None r = refl
     by (Some o) r = refl
 
--- the moves of the exchanged lists are the either_way ones
+-- the moves of the exchanged lists are the turned ones
 moves-turned : (before after : List Row) → HasOneRowEach before → HasOneRowEach after → (t : Pair → Bool) → list_any t (moves_of (outcome_in before) after) ≡ list_any (λ m. t (flip m)) (moves_of (outcome_in after) before)
 moves-turned before after one other t =
     moves-same t (outcome_in before) after
