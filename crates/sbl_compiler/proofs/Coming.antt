@@ -263,13 +263,13 @@ module _ (ns : Names) where
 
   -- with less of the rest
   nearer : (t : Command) (p : Position) (m : Mode) (k : ℕ) (rest : List AmongStrings) (w : Bool) (n : Option Among) (xs : List AmongStrings) → At p xs rest w n → At p xs (founds m t k rest) w (first m t k n)
-  nearer t p m k rest w n xs a = along p xs rest _ w n _ a (longer t m k p.following rest a.few) (head_is t m k p.following rest n a.few a.next)
+  nearer t p m k rest w n xs a = along p xs _ rest w _ n a (longer t m k p.following rest a.few) (head_is t m k p.following rest n a.few a.next)
 
   pub nearer_others : (os : Others) (p : Position) (m : Mode) (k : ℕ) (rest : List AmongStrings) (w : Bool) (n : Option Among) (xs : List AmongStrings) → At p xs rest w n → At p xs (founds_others m os k rest) w (first_others m os k n)
-  nearer_others os p m k rest w n xs a = along p xs rest _ w n _ a (longer_others os m k p.following rest a.few) (head_others os m k p.following rest n a.few a.next)
+  nearer_others os p m k rest w n xs a = along p xs _ rest w _ n a (longer_others os m k p.following rest a.few) (head_others os m k p.following rest n a.few a.next)
 
   nearer_rows : (rs : Rows) (p : Position) (m : Mode) (k : ℕ) (rest : List AmongStrings) (w : Bool) (n : Option Among) (xs : List AmongStrings) → At p xs rest w n → At p xs (founds_rows m rs k rest) w (first_rows m rs k n)
-  nearer_rows rs p m k rest w n xs a = along p xs rest _ w n _ a (longer_rows rs m k p.following rest a.few) (head_rows rs m k p.following rest n a.few a.next)
+  nearer_rows rs p m k rest w n xs a = along p xs _ rest w _ n a (longer_rows rs m k p.following rest a.few) (head_rows rs m k p.following rest n a.few a.next)
 
   -- after a command
   pub further : (t : Command) (p : Position) (m : Mode) (k : ℕ) (xs rest : List AmongStrings) (w : Bool) (n : Option Among) → At p (founds m t k xs) rest w n → At (past t p) xs rest (waits t w) n

@@ -117,7 +117,9 @@ text_by items (Some (routine m c os)) (among n k) = ap (λ (o : Option Text). ok
   go (Some h) = refl
 text_by items (Some (grouping m a ts)) (terms n) = refl
 text_by items None (body n) = refl
-text_by items _ _ = refl
+text_by items _ (body n) = refl
+text_by items _ (among n k) = refl
+text_by items _ (terms n) = refl
 
 texts_same : (items : List Item) (e : Part') → text_for items e ≡ text_at (home items e)
 texts_same items e = ap (λ (o : Option Plain). text_in o e) (first_same (changes e) items) ∙ text_by items (first_passing (changes e) items) e
@@ -328,8 +330,9 @@ agrees items (among n k) h (Some (routine m c os)) at is = held (nth_held k (amo
 agrees items (terms n) h (Some (grouping m a ts)) at is =
     let same : home_of_terms items n ≡ h = cc in
     subst (Agrees items (terms n)) same (terms_agrees items n m a ts at)
-agrees items (body n) h None at is = absurd cc
-agrees items _ h _ at is = absurd cc
+agrees items (body n) h _ at is = absurd cc
+agrees items (among n k) h _ at is = absurd cc
+agrees items (terms n) h _ at is = absurd cc
 
 -- ---- edits and their faults
 

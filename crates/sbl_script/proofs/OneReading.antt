@@ -49,7 +49,10 @@ text_is_one k s bytes f g (inr (inl a)) (inr (inl b)) = a.2 ∙ sym b.2
 text_is_one k s bytes f g (inr (inl a)) (inr (inr b)) = absurd (a.1 b.1)
 text_is_one k s bytes f g (inr (inr a)) (inr (inl b)) = absurd (b.1 a.1)
 text_is_one k s bytes f g (inr (inr a)) (inr (inr b)) = k.first s (chars bytes) f g a.2 b.2
-text_is_one k s bytes f g _ _ = absurd (omega (arith, a.0, b.0))
+text_is_one k s bytes f g (inl a) (inr (inl b)) = absurd (omega (arith, a.0, b.0))
+text_is_one k s bytes f g (inl a) (inr (inr b)) = absurd (omega (arith, a.0, b.0))
+text_is_one k s bytes f g (inr (inl a)) (inl b) = absurd (omega (arith, a.0, b.0))
+text_is_one k s bytes f g (inr (inr a)) (inl b) = absurd (omega (arith, a.0, b.0))
 
 -- a text with tokens has no fault
 pub no_text_fault : Facts → (s : Directives) (bytes : List ℕ) (ts : List PlacedToken) (f : ScriptFault) → HasTokens s bytes ts → IsTextFault s bytes f → ⊥

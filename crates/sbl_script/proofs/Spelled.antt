@@ -149,8 +149,9 @@ sets_nothing : (d : Part') (x : Plain) (e : InForce) → changes d x ≡ true �
 sets_nothing d (routine m c os) e h = refl
 sets_nothing d (grouping m a ts) e h = refl
 sets_nothing d (declaration k ns) e h = refl
-sets_nothing (named.Routine n) (escapes a b) e h = absurd cc
-sets_nothing _ _ e h = absurd cc
+sets_nothing (named.Routine n) _ e h = absurd cc
+sets_nothing (named.Among n k) _ e h = absurd cc
+sets_nothing (named.Grouping n) _ e h = absurd cc
 
 step_same : (e : InForce) (x : Plain) (r q : Ps) → (Say (no_directive (escapes_after e x)) r → Say (no_directive (escapes_after e x)) q) → Say (no_directive e) (placed_plain x r) → Say (no_directive e) (placed_plain x q)
 step_same e x r q f h =
