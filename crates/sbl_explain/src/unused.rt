@@ -17,14 +17,13 @@ use crate::bench_words::words_of;
 use crate::kept_takes::KeptTakes;
 use crate::kept_words::{KeptWord, takes_of_words};
 use crate::takes::{Takes, has_take};
-use crate::touched_items::{has_item, met_by_words};
+use crate::touched_items::{Items, has_item, met_by_words};
 use crate::usable_parts::{Parts, parts_of};
 use csv::ByteRecord;
 use sbl_bench::Bench;
 use sbl_io::{Report, ReportLength, ReportText, text_of};
 use sbl_machine::ItemRef;
 use std::alloc::{AllocError, Global};
-use std::collections::BTreeSet;
 
 /// Appends the name of an item or of its routine, and the number of an among. Returns `AllocError` if an allocation fails.
 pub(crate) fn push_place(
@@ -88,7 +87,7 @@ fn push_entry<T: Report>(
 #[derive(Clone, Copy)]
 struct Used<'s, 'a> {
     alloc: Global,
-    met: &'s BTreeSet<ItemRef<'a>>,
+    met: &'s Items<'a>,
     taken: &'s Takes<'a>,
 }
 
