@@ -17,71 +17,23 @@ use Rattle.sbl_bench.specs.inside.Stops.{IsCut, IsFaultOfText, IsStopOf}
 
 pub ends : (s t : Contents) (e : Edit) (f : EditFault) → f ≢ fault.BrokenOff → Edits (Err f) s e t → EditsOrBreaks (Err f) s e t
 ends s t e fault.BrokenOff not h = absurd (not refl)
-ends s t e fault.Present not h = h
-ends s t e fault.Absent not h = h
-ends s t e fault.EmptyWord not h = h
-ends s t e fault.WordTooLong not h = h
-ends s t e fault.Full not h = h
-ends s t e fault.NoRoutine not h = h
-ends s t e fault.NoAmong not h = h
-ends s t e fault.AmongCount not h = h
-ends s t e (fault.Script g) not h = h
-ends s t e fault.OutOfMemory not h = h
-ends s t e fault.MeterFull not h = h
-ends s t e fault.BadLimit not h = h
-ends s t e fault.NoGrouping not h = h
+ends s t e _ not h = h
 
 -- the caller has not said anything
 pub untold : (said : Bool) (f : EditFault) → f ≢ fault.BrokenOff → BreaksIfTold said said f
 untold said fault.BrokenOff not = absurd (not refl)
-untold said fault.Present not = refl
-untold said fault.Absent not = refl
-untold said fault.EmptyWord not = refl
-untold said fault.WordTooLong not = refl
-untold said fault.Full not = refl
-untold said fault.NoRoutine not = refl
-untold said fault.NoAmong not = refl
-untold said fault.AmongCount not = refl
-untold said (fault.Script g) not = refl
-untold said fault.OutOfMemory not = refl
-untold said fault.MeterFull not = refl
-untold said fault.BadLimit not = refl
-untold said fault.NoGrouping not = refl
+untold said _ not = refl
 
 -- the same after calls in which the caller has said nothing
 pub told_more : (f : EditFault) (said between said_now : Bool) → between ≡ said → BreaksIfTold between said_now f → BreaksIfTold said said_now f
 told_more fault.BrokenOff said between said_now same told = told
-told_more fault.Present said between said_now same told = told ∙ same
-told_more fault.Absent said between said_now same told = told ∙ same
-told_more fault.EmptyWord said between said_now same told = told ∙ same
-told_more fault.WordTooLong said between said_now same told = told ∙ same
-told_more fault.Full said between said_now same told = told ∙ same
-told_more fault.NoRoutine said between said_now same told = told ∙ same
-told_more fault.NoAmong said between said_now same told = told ∙ same
-told_more fault.AmongCount said between said_now same told = told ∙ same
-told_more (fault.Script g) said between said_now same told = told ∙ same
-told_more fault.OutOfMemory said between said_now same told = told ∙ same
-told_more fault.MeterFull said between said_now same told = told ∙ same
-told_more fault.BadLimit said between said_now same told = told ∙ same
-told_more fault.NoGrouping said between said_now same told = told ∙ same
+told_more _ said between said_now same told = told ∙ same
 
 -- an edit whose caller never says so
 pub plain : (r : Result (Unit {0}) EditFault) (s t : Contents) (e : Edit) → IfErr r (λ f. BreaksIfTold false false f) → EditsOrBreaks r s e t → Edits r s e t
 plain (Ok u) s t e told h = h
 plain (Err fault.BrokenOff) s t e told h = cc told
-plain (Err fault.Present) s t e told h = h
-plain (Err fault.Absent) s t e told h = h
-plain (Err fault.EmptyWord) s t e told h = h
-plain (Err fault.WordTooLong) s t e told h = h
-plain (Err fault.Full) s t e told h = h
-plain (Err fault.NoRoutine) s t e told h = h
-plain (Err fault.NoAmong) s t e told h = h
-plain (Err fault.AmongCount) s t e told h = h
-plain (Err (fault.Script g)) s t e told h = h
-plain (Err fault.OutOfMemory) s t e told h = h
-plain (Err fault.MeterFull) s t e told h = h
-plain (Err fault.BadLimit) s t e told h = h
-plain (Err fault.NoGrouping) s t e told h = h
+plain (Err _) s t e told h = h
 
 -- ---- faults that are found before any run
 
@@ -143,32 +95,10 @@ cut_more fault.BrokenOff most total before count new_count more room cut =
     let few = cut.1 in
     let is = cut.2 in
     (new_count - before, omega (arith, more, room, few, is), omega (arith, more, is))
-cut_more fault.Present most total before count new_count more room cut = cut
-cut_more fault.Absent most total before count new_count more room cut = cut
-cut_more fault.EmptyWord most total before count new_count more room cut = cut
-cut_more fault.WordTooLong most total before count new_count more room cut = cut
-cut_more fault.Full most total before count new_count more room cut = cut
-cut_more fault.NoRoutine most total before count new_count more room cut = cut
-cut_more fault.NoAmong most total before count new_count more room cut = cut
-cut_more fault.AmongCount most total before count new_count more room cut = cut
-cut_more (fault.Script g) most total before count new_count more room cut = cut
-cut_more fault.MeterFull most total before count new_count more room cut = cut
-cut_more fault.BadLimit most total before count new_count more room cut = cut
-cut_more fault.NoGrouping most total before count new_count more room cut = cut
+cut_more _ most total before count new_count more room cut = cut
 
 -- where enough counts are left for all of them
 pub cut_stops : (f : EditFault) (needed count new_count : ℕ) → needed ≤ max_runs - count → IsCut needed f count new_count → IsStopOf needed f count new_count
 cut_stops fault.OutOfMemory needed count new_count room cut = inr (cut.0, cut.1, room, cut.2)
 cut_stops fault.BrokenOff needed count new_count room cut = (cut.0, cut.1, room, cut.2)
-cut_stops fault.Present needed count new_count room cut = absurd cut
-cut_stops fault.Absent needed count new_count room cut = absurd cut
-cut_stops fault.EmptyWord needed count new_count room cut = absurd cut
-cut_stops fault.WordTooLong needed count new_count room cut = absurd cut
-cut_stops fault.Full needed count new_count room cut = absurd cut
-cut_stops fault.NoRoutine needed count new_count room cut = absurd cut
-cut_stops fault.NoAmong needed count new_count room cut = absurd cut
-cut_stops fault.AmongCount needed count new_count room cut = absurd cut
-cut_stops (fault.Script g) needed count new_count room cut = absurd cut
-cut_stops fault.MeterFull needed count new_count room cut = absurd cut
-cut_stops fault.BadLimit needed count new_count room cut = absurd cut
-cut_stops fault.NoGrouping needed count new_count room cut = absurd cut
+cut_stops _ needed count new_count room cut = absurd cut

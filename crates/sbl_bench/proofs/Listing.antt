@@ -123,19 +123,7 @@ put_seen has has' words words' w seen put last q =
 
 pub is_fault : (o : Option EditFault) (f : EditFault) → o ≡ Some f → IsFaultOrMemory o f
 is_fault o fault.OutOfMemory is = tt
-is_fault o fault.Present is = is
-is_fault o fault.Absent is = is
-is_fault o fault.EmptyWord is = is
-is_fault o fault.WordTooLong is = is
-is_fault o fault.Full is = is
-is_fault o fault.NoRoutine is = is
-is_fault o fault.NoAmong is = is
-is_fault o fault.AmongCount is = is
-is_fault o (fault.Script g) is = is
-is_fault o fault.MeterFull is = is
-is_fault o fault.BadLimit is = is
-is_fault o fault.NoGrouping is = is
-is_fault o fault.BrokenOff is = is
+is_fault o _ is = is
 
 module _ (all old rest more : List (List ℕ)) (w : List ℕ) (split : rest ≡ w ∷ more) where
   pub fault_next : (new : List (List ℕ)) → opening_fault [] all ≡ opening_fault old rest → word_fault old w ≡ None → new ≡ with_word old w → opening_fault [] all ≡ opening_fault new more
@@ -151,19 +139,7 @@ module _ (all old rest more : List (List ℕ)) (w : List ℕ) (split : rest ≡ 
   -- the fault of a word is that of the list
   pub fault_here : (f : EditFault) → opening_fault [] all ≡ opening_fault old rest → IsFaultOrMemory (word_fault old w) f → IsFaultOrMemory (opening_fault [] all) f
   fault_here fault.OutOfMemory so is = tt
-  fault_here fault.Present so is = fault_found fault.Present so is
-  fault_here fault.Absent so is = fault_found fault.Absent so is
-  fault_here fault.EmptyWord so is = fault_found fault.EmptyWord so is
-  fault_here fault.WordTooLong so is = fault_found fault.WordTooLong so is
-  fault_here fault.Full so is = fault_found fault.Full so is
-  fault_here fault.NoRoutine so is = fault_found fault.NoRoutine so is
-  fault_here fault.NoAmong so is = fault_found fault.NoAmong so is
-  fault_here fault.AmongCount so is = fault_found fault.AmongCount so is
-  fault_here (fault.Script g) so is = fault_found (fault.Script g) so is
-  fault_here fault.MeterFull so is = fault_found fault.MeterFull so is
-  fault_here fault.BadLimit so is = fault_found fault.BadLimit so is
-  fault_here fault.NoGrouping so is = fault_found fault.NoGrouping so is
-  fault_here fault.BrokenOff so is = fault_found fault.BrokenOff so is
+  fault_here _ so is = fault_found _ so is
 
 -- ---- runs
 
@@ -215,19 +191,7 @@ new_after f ws k d before distinct below so =
 
 pub words_refused : (s : Contents) (ws : List (List ℕ)) (f : EditFault) → IsFaultOrMemory (opening_fault [] ws) f → Edits (Err f) s (Words ws) s
 words_refused s ws fault.OutOfMemory is = BeforeEdit (λ w same. cc same) tt refl
-words_refused s ws fault.Present is = (inl is, refl)
-words_refused s ws fault.Absent is = (inl is, refl)
-words_refused s ws fault.EmptyWord is = (inl is, refl)
-words_refused s ws fault.WordTooLong is = (inl is, refl)
-words_refused s ws fault.Full is = (inl is, refl)
-words_refused s ws fault.NoRoutine is = (inl is, refl)
-words_refused s ws fault.NoAmong is = (inl is, refl)
-words_refused s ws fault.AmongCount is = (inl is, refl)
-words_refused s ws (fault.Script g) is = (inl is, refl)
-words_refused s ws fault.MeterFull is = (inl is, refl)
-words_refused s ws fault.BadLimit is = (inl is, refl)
-words_refused s ws fault.NoGrouping is = (inl is, refl)
-words_refused s ws fault.BrokenOff is = (inl is, refl)
+words_refused s ws _ is = (inl is, refl)
 
 module _ (s : Contents) (ws : List (List ℕ)) (none : opening_fault [] ws ≡ None) where
   abbrev need : ℕ
@@ -241,18 +205,8 @@ module _ (s : Contents) (ws : List (List ℕ)) (none : opening_fault [] ws ≡ N
   words_stop fault.OutOfMemory count (inr some) = replaces_nothing s (Words ws) s.setting s.words s.count need count no_removal (none, refl) refl refl some.2 refl (some.0, some.1, some.3)
   words_stop fault.MeterFull count full =
       subst (λ (n : ℕ). Edits (Err fault.MeterFull) s (Words ws) (record s { count = n })) (sym full.1) (replaces_never s (Words ws) s.setting s.count need (none, refl) refl refl full.0)
-  words_stop fault.Present count stop = absurd stop
-  words_stop fault.Absent count stop = absurd stop
-  words_stop fault.EmptyWord count stop = absurd stop
-  words_stop fault.WordTooLong count stop = absurd stop
-  words_stop fault.Full count stop = absurd stop
-  words_stop fault.NoRoutine count stop = absurd stop
-  words_stop fault.NoAmong count stop = absurd stop
-  words_stop fault.AmongCount count stop = absurd stop
-  words_stop (fault.Script f) count stop = absurd stop
-  words_stop fault.BadLimit count stop = absurd stop
-  words_stop fault.NoGrouping count stop = absurd stop
   words_stop fault.BrokenOff count cut = breaks s (Words ws) s.setting s.count need count (none, refl) refl refl cut.2 (cut.0, cut.1, cut.3)
+  words_stop _ count stop = absurd stop
 
   pub words_replace : (words : List (List ℕ)) (count : ℕ) → words ≡ vocabulary ws → need ≤ max_runs - s.count → count ≡ s.count + need
       → Edits (Ok tt) s (Words ws) (record s { words = words; count = count })

@@ -20,6 +20,9 @@ pub record Facts : Type 0 where
   pub unread : FaultIsOne
   pub read_either : ScriptOrFault
 
+pub facts_of : EditIsOne → EditFaultIsOne → EditOrFault → ScriptIsOne → FaultIsOne → ScriptOrFault → Facts
+facts_of a b c d e f = record { script = a; fault = b; either = c; read = d; unread = e; read_either = f }
+
 -- two settings are equal by their parts
 pub both : {p q : Setting} → p.script ≡ q.script → p.limit ≡ q.limit → p ≡ q
 both a b = λ i. record { script = a i; limit = b i }

@@ -89,18 +89,7 @@ adds (Err fault.MeterFull) s word words count free new small _ _ same stop = (
   inr (s.setting, (free, refl), rw (one_run s word new, stop.0) refl, refl),
   λ i. record s { words = same i; count = stop.1 i },
 )
-adds (Err fault.Present) s word words count free new small _ _ same stop = absurd stop
-adds (Err fault.Absent) s word words count free new small _ _ same stop = absurd stop
-adds (Err fault.EmptyWord) s word words count free new small _ _ same stop = absurd stop
-adds (Err fault.WordTooLong) s word words count free new small _ _ same stop = absurd stop
-adds (Err fault.Full) s word words count free new small _ _ same stop = absurd stop
-adds (Err fault.NoRoutine) s word words count free new small _ _ same stop = absurd stop
-adds (Err fault.NoAmong) s word words count free new small _ _ same stop = absurd stop
-adds (Err fault.BadLimit) s word words count free new small _ _ same stop = absurd stop
-adds (Err fault.NoGrouping) s word words count free new small _ _ same stop = absurd stop
-adds (Err fault.BrokenOff) s word words count free new small _ _ same stop = absurd stop
-adds (Err fault.AmongCount) s word words count free new small _ _ same stop = absurd stop
-adds (Err (fault.Script f)) s word words count free new small _ _ same stop = absurd stop
+adds (Err _) s word words count free new small _ _ same stop = absurd stop
 
 -- ---- removing a word
 

@@ -30,19 +30,9 @@ module _ (s : Contents) (e : Edit) (t : Setting) (a : AffectedWords) (es : List 
       replaces_nothing s e t s.words s.count need count b.wants b.after refl same some.2 refl (some.0, subst (λ (n : ℕ). some.0 ≤ n) same some.1, some.3)
   stop_edits fault.MeterFull count full =
       subst (λ (n : ℕ). Edits (Err fault.MeterFull) s e (record s { count = n })) (sym full.1) (replaces_never s e t s.count need b.after refl same full.0)
-  stop_edits fault.Present count stop = absurd stop
-  stop_edits fault.Absent count stop = absurd stop
-  stop_edits fault.EmptyWord count stop = absurd stop
-  stop_edits fault.WordTooLong count stop = absurd stop
-  stop_edits fault.Full count stop = absurd stop
-  stop_edits fault.NoRoutine count stop = absurd stop
-  stop_edits fault.NoAmong count stop = absurd stop
-  stop_edits fault.AmongCount count stop = absurd stop
-  stop_edits (fault.Script f) count stop = absurd stop
-  stop_edits fault.BadLimit count stop = absurd stop
-  stop_edits fault.NoGrouping count stop = absurd stop
   stop_edits fault.BrokenOff count cut =
       breaks s e t s.count need count b.after refl same cut.2 (cut.0, subst (λ (n : ℕ). cut.0 < n) same cut.1, cut.3)
+  stop_edits _ count stop = absurd stop
 
   pub commit_edits : (fs : List KeptWord) (count : ℕ) → words_in fs ≡ words_in es → need ≤ max_runs - s.count → count ≡ s.count + need → Edits (Ok tt) s e (record { setting = t; words = words_in fs; count = count })
   commit_edits fs count stay room counts =

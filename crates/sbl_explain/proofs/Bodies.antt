@@ -1,6 +1,6 @@
 -- Each search of a run takes the first of the strings that fit.
-use Rattle.std.proofs.Common.{subst, ◌≡◌, ℕ, zero, suc, Bool, true, false, List, [], length, Option, Some, None, Ok, refl, sym, ap, ◌∙◌, inl, inr}
-use Rattle.std.specs.Prelude.{ℤ, if◌then◌else◌, slice_index_or, neg_ℤ}
+use Rattle.std.proofs.Common.{subst, ◌≡◌, ◌+◌, ℕ, zero, suc, Bool, true, false, List, [], Option, Some, None, Ok, refl, sym, ap, ◌∙◌, inl, inr, arith}
+use Rattle.std.specs.Prelude.{if◌then◌else◌, slice_index_or}
 use Rattle.sbl_ast.specs.declared.tree.DeclarationKind.TheVariants as kinds
 use Rattle.sbl_ast.specs.declared.tree.Simple.{Simple}
 use Rattle.sbl_ast.specs.declared.tree.Simple.TheVariants as simples
@@ -8,22 +8,21 @@ use Rattle.sbl_ast.specs.declared.tree.Splice.{Splice}
 use Rattle.sbl_ast.specs.Tree as trees
 use Rattle.sbl_ast.specs.Tree.{bracket, simple_, literal_, name_, non_, prefixed, counted, move_, named, splice_, setlimit_, assign_, compare_, compare_values_, among_, no_rows, row, no_others, joined, no_starter, starter, bare, group}
 use Rattle.sbl_ast.specs.declared.mode.Mode.{Mode}
-use Rattle.sbl_ast.specs.declared.mode.Mode.TheVariants.{Forward, Backward}
 use Rattle.sbl_semantics.specs.Items.{DeclaredNames, Body, place_of, is_member}
 use Rattle.sbl_semantics.specs.Regions.{among_at, number_after, number_after_rows, number_after_others, number_after_starter, first, first_rows, first_others, waits, waits_others}
 use Rattle.sbl_semantics.specs.Landmarks.{Among, mode_under}
 use Rattle.sbl_semantics.specs.Moves.{touch_grouping}
-use Rattle.sbl_semantics.specs.Numbers.{Value, with_value, integer_at, value_in_range}
+use Rattle.sbl_semantics.specs.Numbers.{Value, integer_at}
 use Rattle.sbl_semantics.specs.Control.{with_group, pay_first}
 use Rattle.sbl_semantics.specs.Choices.{choice}
 use Rattle.sbl_semantics.specs.State.{State, Ending, Signals, Doing}
 use Rattle.sbl_semantics.specs.Meaning as meaning
 use Rattle.sbl_semantics.specs.inside.RegionRuns as regions
 use Rattle.sbl_semantics.specs.inside.MeaningParts as parts
-use Rattle.sbl_semantics.specs.Meaning.{Offer, prefixed_does, counted_does, joined_does, limited_does, simple_does, moved_does, assigned_does, compared_does, named_does, edited_does, takes, try_each, search}
+use Rattle.sbl_semantics.specs.Meaning.{counted_does, joined_does, simple_does, moved_does, assigned_does, compared_does, edited_does, search}
 use Rattle.sbl_semantics.specs.inside.MeaningParts.{begins}
-use Rattle.sbl_ast.specs.declared.tree.Constant.{Constant}
-use Rattle.sbl_ast.specs.declared.tree.Constant.TheVariants as constants
+use Rattle.sbl_machine.proofs.Steps.{more}
+use Rattle.sbl_machine.proofs.StepsActs.{text_more, worth_more}
 use Rattle.sbl_explain.specs.TreeAmongs.{HasAmong, IsIn, IsInGroups, IsInOthers, IsInRows, IsInStarter}
 use Rattle.sbl_explain.proofs.FirstAmongs.{first_is, none_is, others_are, rows_are}
 use Rattle.sbl_explain.proofs.RunParts.{Any_refusal, Family, GoodIn, Part, Some_end, at, forget, if_part, part_same, signals_good}
@@ -34,41 +33,21 @@ use Rattle.sbl_explain.proofs.SearchesEnd.{Called, CallsAre, search_paid}
 
 -- ---- values do not depend on the steps
 
-pub text_at : (ns : DeclaredNames) (a : trees.Argument) (k : ℕ) (s : State) → meaning.text ns a (at k s) ≡ meaning.text ns a s
-text_at ns (trees.written_out q) k s = refl
-text_at ns (trees.by_name x) k s = refl
+-- what any further steps leave is the same after any number of steps
+with_steps : {A : Type 0} (f : State → A) → ((k : ℕ) (s : State) → f (more k s) ≡ f s) → (k : ℕ) (s : State) → f (at k s) ≡ f s
+with_steps f same k s =
+    sym (same 0 (at k s)) ∙ ap (λ (n : ℕ). f (record s { steps = n; events = None })) (turned k)
+    ∙ same k (at 0 s) ∙ sym (same s.steps (at 0 s))
+    ∙ sym (ap (λ (n : ℕ). f (record s { steps = n; events = None })) (turned s.steps)) ∙ same 0 s
+  where
+    turned : (n : ℕ) → n + 0 ≡ 0 + n
+    turned n = omega arith
 
-constant_at : (ns : DeclaredNames) (c : Constant) (m : Mode) (k : ℕ) (s : State) → meaning.constant_worth ns c m (at k s) ≡ meaning.constant_worth ns c m s
-constant_at ns constants.MaxInt m k s = refl
-constant_at ns constants.MinInt m k s = refl
-constant_at ns constants.Cursor m k s = refl
-constant_at ns constants.Limit Forward k s = refl
-constant_at ns constants.Limit Backward k s = refl
-constant_at ns constants.Len m k s = refl
+text_at : (ns : DeclaredNames) (a : trees.Argument) (k : ℕ) (s : State) → meaning.text ns a (at k s) ≡ meaning.text ns a s
+text_at ns a = with_steps (meaning.text ns a) (text_more ns a)
 
-module _ (ns : DeclaredNames) (m : Mode) (k : ℕ) (s : State) where
-  mutual
-    pub worth_at : (e : trees.Expression) → meaning.worth ns e m (at k s) ≡ meaning.worth ns e m s
-    worth_at (trees.expression p ss) = ap (λ v. meaning.value_of_sums ns ss v m (at k s)) (product_at p) ∙ sums_at ss (meaning.product_worth ns p m s)
-
-    sums_at : (ss : trees.Sums) (v : Value) → meaning.value_of_sums ns ss v m (at k s) ≡ meaning.value_of_sums ns ss v m s
-    sums_at trees.no_sums v = refl
-    sums_at (trees.sum o p ss) v = ap (λ w. meaning.value_of_sums ns ss (meaning.value_of_sum ns o v w) m (at k s)) (product_at p) ∙ sums_at ss (meaning.value_of_sum ns o v (meaning.product_worth ns p m s))
-
-    product_at : (p : trees.Product) → meaning.product_worth ns p m (at k s) ≡ meaning.product_worth ns p m s
-    product_at (trees.product f ss) = ap (λ v. meaning.value_of_products ns ss v m (at k s)) (factor_at f) ∙ scales_at ss (meaning.factor_worth ns f m s)
-
-    scales_at : (ss : trees.Scales) (v : Value) → meaning.value_of_products ns ss v m (at k s) ≡ meaning.value_of_products ns ss v m s
-    scales_at trees.no_scales v = refl
-    scales_at (trees.scale o f ss) v = ap (λ w. meaning.value_of_products ns ss (meaning.value_of_product ns o v w) m (at k s)) (factor_at f) ∙ scales_at ss (meaning.value_of_product ns o v (meaning.factor_worth ns f m s))
-
-    factor_at : (f : trees.Factor) → meaning.factor_worth ns f m (at k s) ≡ meaning.factor_worth ns f m s
-    factor_at (trees.negated f) = ap (λ v. with_value v (λ x. value_in_range (neg_ℤ x))) (factor_at f)
-    factor_at (trees.bracketed e) = worth_at e
-    factor_at (trees.numeral i) = refl
-    factor_at (trees.variable x) = refl
-    factor_at (trees.fixed c) = constant_at ns c m k s
-    factor_at (trees.length_of a) = ap (λ cs. value_in_range (ℤ.pos (length cs))) (text_at ns a k s)
+worth_at : (ns : DeclaredNames) (m : Mode) (k : ℕ) (s : State) (e : trees.Expression) → meaning.worth ns e m (at k s) ≡ meaning.worth ns e m s
+worth_at ns m k s e = with_steps (λ t. meaning.worth ns e m t) (λ j t. worth_more ns m j t e) k s
 
 module _ (ns : DeclaredNames) (class : List ℕ → ℕ → Bool) (bodies : List ℕ → Option Body) where
   module _ (call : List ℕ → Doing) (r : ℕ) (calls : CallsAre ns bodies r call) where

@@ -3,6 +3,7 @@ use Rattle.std.proofs.Common.{◌≡◌, ◌∙◌, ◌||◌, ◌<◌, ℕ, zero
 use Rattle.std.specs.List.{list_any}
 use Rattle.std.specs.Str.{bytes_eq}
 use Rattle.std.proofs.lemmas.Slice.Eq.{bytes_eq-Decides}
+use Rattle.sbl_rows.proofs.Putting.{or_false, or_shift}
 use Rattle.sbl_rows.specs.Setting.{Setting}
 use Rattle.sbl_bench.specs.Vocabulary.{is_word}
 use Rattle.sbl_machine.specs.BuiltFrom.{is_affected_by, meets}
@@ -26,8 +27,7 @@ or_turn true false c = refl
 or_turn false b c = refl
 
 pub or_last : (a : Bool) → (a || false) ≡ a
-or_last true = refl
-or_last false = refl
+or_last = or_false
 
 pub any_append : {A : Type 0} (test : A → Bool) (xs ys : List A) → list_any test (xs ++ ys) ≡ (list_any test xs || list_any test ys)
 any_append test [] ys = refl
@@ -54,10 +54,7 @@ met_words s x [] = refl
 met_words s x (w ∷ words) = ap₂ (λ (a b : Bool). a || b) (met_one s x w) (met_words s x words)
 
 pub or_prefix : (a b c : Bool) → (a || (b || c)) ≡ ((b || a) || c)
-or_prefix true true c = refl
-or_prefix true false c = refl
-or_prefix false true c = refl
-or_prefix false false c = refl
+or_prefix = or_shift
 
 pub or_both : (a b c : Bool) → (b || (a || c)) ≡ ((a || b) || c)
 or_both a b c = or_prefix b a c

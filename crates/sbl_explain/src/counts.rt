@@ -30,31 +30,29 @@ impl Record for Count<'_> {
     ghost fields = { λ count. number_row count };
 
     fn fill(&self, text: &mut String, csv_record: &mut ByteRecord) -> Result<(), AllocError> {
-        push_usable(text, csv_record, &self.usable)?;
+        self.usable.push_fields(text, csv_record)?;
         push_number(*text.allocator(), csv_record, self.words)
     }
 }
 
-/// Appends the fields of a part of a script. Returns `AllocError` if an allocation fails.
-fn push_usable(
-    text: &mut String,
-    csv_record: &mut ByteRecord,
-    usable: &Usable<'_>,
-) -> Result<(), AllocError>
-    requires { partial_of csv_record.old ≡ [] }
-    ensures fields { OnOk result (fields_of csv_record.new ≡ fields_of csv_record.old ++ spec.usable_row (view_usable usable.now)) }
-    ensures partial { OnOk result (partial_of csv_record.new ≡ []) }
-{
-    let alloc = *text.allocator();
-    match usable {
-        Usable::Whole(item) => {
-            csv_record.push_field(kind(item).as_bytes())?;
-            push_place(alloc, csv_record, item)
-        }
-        Usable::Entry(among, string) => {
-            csv_record.push_field(b"entry")?;
-            push_place(alloc, csv_record, among)?;
-            push_text(text, csv_record, string)
+impl Usable<'_> {
+    /// Appends the fields of this part of a script. Returns `AllocError` if an allocation fails.
+    fn push_fields(&self, text: &mut String, csv_record: &mut ByteRecord) -> Result<(), AllocError>
+        requires { partial_of csv_record.old ≡ [] }
+        ensures fields { OnOk result (fields_of csv_record.new ≡ fields_of csv_record.old ++ spec.usable_row (view_usable self.now)) }
+        ensures partial { OnOk result (partial_of csv_record.new ≡ []) }
+    {
+        let alloc = *text.allocator();
+        match self {
+            Usable::Whole(item) => {
+                csv_record.push_field(kind(item).as_bytes())?;
+                push_place(alloc, csv_record, item)
+            }
+            Usable::Entry(among, string) => {
+                csv_record.push_field(b"entry")?;
+                push_place(alloc, csv_record, among)?;
+                push_text(text, csv_record, string)
+            }
         }
     }
 }

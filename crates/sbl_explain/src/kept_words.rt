@@ -92,8 +92,8 @@ fn among_of<'b>(bench: &'b Bench, taken: &Taken) -> ItemRef<'b>
 /// Adds what is in a list. Returns `AllocError` if an allocation fails.
 fn add_list<'b>(
     alloc: Global,
-    takes: &mut Takes<'b>,
     bench: &'b Bench,
+    takes: &mut Takes<'b>,
     list: &[Taken],
 ) -> Result<(), AllocError>
     ensures { OnOk result (IsUnion (takes_in takes.new) (view_list (routine_names (setting_of bench.now)) list.now) (takes_in takes.old)) }
@@ -114,7 +114,7 @@ pub(crate) fn takes_of_word<'b>(
     ensures { IfOk result (λ takes. (t : Take) → list_any (same_take t) (takes_in takes) ≡ has_taken (routine_names (setting_of bench.now)) t word.now) }
 {
     let mut takes = BTreeSet::new(alloc);
-    add_list(alloc, &mut takes, bench, word.takes.as_slice())?;
+    add_list(alloc, bench, &mut takes, word.takes.as_slice())?;
     Ok(takes)
 }
 
@@ -128,7 +128,7 @@ pub(crate) fn takes_of_words<'b>(
 {
     let mut takes = BTreeSet::new(alloc);
     for word in words {
-        add_list(alloc, &mut takes, bench, word.takes.as_slice())?;
+        add_list(alloc, bench, &mut takes, word.takes.as_slice())?;
     }
     Ok(takes)
 }

@@ -5,7 +5,7 @@ ghost use Rattle.std.specs.List.{list_any};
 ghost use Rattle.sbl_bench.specs.KeptRuns.{setting_of};
 ghost use Rattle.sbl_machine.specs.ItemRefs.{item_of_ref};
 ghost use Rattle.sbl_semantics.specs.Events.{event_of};
-ghost use Rattle.sbl_explain.specs.Unused.{Take, same_take, takes_at, takes_from, takes_of};
+ghost use Rattle.sbl_explain.specs.Unused.{Take, takes_at, takes_from, takes_of};
 ghost use Rattle.sbl_explain.specs.UnusedViews.{HasTaken, IsUnion, takes_in, texts_of};
 ghost use Rattle.sbl_explain.specs.WhyRows.{routine_names};
 ghost use Rattle.sbl_explain.specs.Moments.{at_start};
@@ -101,18 +101,4 @@ pub(crate) fn takes_by_words<'a>(
         add_word(alloc, &mut takes, bench, word)?;
     }
     Ok(takes)
-}
-
-/// Returns whether a string is taken at an among. Returns `AllocError` if an allocation fails.
-#[tactic(auto, using(crate::proofs::Sets::take_held))]
-pub(crate) fn has_take<'a>(
-    alloc: Global,
-    takes: &Takes<'a>,
-    among: &ItemRef<'a>,
-    string: &[char],
-) -> Result<bool, AllocError>
-    ensures { IfOk result (λ b. b ≡ list_any (same_take (item_of_ref among.now, string.now)) (takes_in takes.now)) }
-{
-    let key = (*among, Vec::from_slice(alloc, string)?);
-    Ok(takes.contains(&key))
 }

@@ -20,9 +20,12 @@ use sbl_script::Script;
 use std::alloc::{AllocError, Global};
 use std::collections::BTreeSet;
 
+/// Items in their order.
+pub(crate) type Items<'a> = BTreeSet<ItemRef<'a>>;
+
 /// Adds an item. Returns `AllocError` if an allocation fails.
 #[tactic(auto, using(crate::proofs::Sets::item_added))]
-fn add_item<'a>(items: &mut BTreeSet<ItemRef<'a>>, item: ItemRef<'a>) -> Result<(), AllocError>
+fn add_item<'a>(items: &mut Items<'a>, item: ItemRef<'a>) -> Result<(), AllocError>
     ensures { OnOk result ((test : Part' → Bool) → list_any test (items_of_refs items.new) ≡ (test (item_of_ref item.entry) || list_any test (items_of_refs items.old))) }
 {
     items.insert(item)?;
@@ -30,10 +33,7 @@ fn add_item<'a>(items: &mut BTreeSet<ItemRef<'a>>, item: ItemRef<'a>) -> Result<
 }
 
 /// Adds the items of another set. Returns `AllocError` if an allocation fails.
-fn add_items<'a>(
-    items: &mut BTreeSet<ItemRef<'a>>,
-    more: BTreeSet<ItemRef<'a>>,
-) -> Result<(), AllocError>
+fn add_items<'a>(items: &mut Items<'a>, more: Items<'a>) -> Result<(), AllocError>
     ensures { OnOk result (IsUnion (items_of_refs items.new) (items_of_refs more.entry) (items_of_refs items.old)) }
 {
     for item in more {
@@ -43,11 +43,7 @@ fn add_items<'a>(
 }
 
 /// Adds the items that the run of a word of the vocabulary touches. Returns `AllocError` if an allocation fails.
-fn add_touched<'a>(
-    items: &mut BTreeSet<ItemRef<'a>>,
-    bench: &'a Bench,
-    word: &[char],
-) -> Result<(), AllocError>
+fn add_touched<'a>(items: &mut Items<'a>, bench: &'a Bench, word: &[char]) -> Result<(), AllocError>
     ensures { is_word word.now bench.now.words ≡ true → OnOk result (IsUnion (items_of_refs items.new) (touched_by (setting_of bench.now) word.now) (items_of_refs items.old)) }
 {
     match bench.touched_refs(word)? {
@@ -62,7 +58,7 @@ fn touched_by_words<'a>(
     alloc: Global,
     bench: &'a Bench,
     words: &[&[char]],
-) -> Result<BTreeSet<ItemRef<'a>>, AllocError>
+) -> Result<Items<'a>, AllocError>
     ensures { texts_of words.now ≡ bench.now.words → IfOk result (AreTouched (setting_of bench.now) bench.now.words) }
 {
     let mut items = BTreeSet::new(alloc);
@@ -73,10 +69,7 @@ fn touched_by_words<'a>(
 }
 
 /// Adds the grouping that a term names, if it names one. Returns `AllocError` if an allocation fails.
-fn add_argument<'a>(
-    items: &mut BTreeSet<ItemRef<'a>>,
-    argument: &'a Argument,
-) -> Result<(), AllocError>
+fn add_argument<'a>(items: &mut Items<'a>, argument: &'a Argument) -> Result<(), AllocError>
     ensures { OnOk result ((p : Part' → Bool) → list_any p (items_of_refs items.new) ≡ (names (λ k. p (Grouping k)) (view_argument argument.now) || list_any p (items_of_refs items.old))) }
 {
     match argument {
@@ -86,7 +79,7 @@ fn add_argument<'a>(
 }
 
 /// Adds the groupings that terms name. Returns `AllocError` if an allocation fails.
-fn add_terms<'a>(items: &mut BTreeSet<ItemRef<'a>>, terms: &'a [Term]) -> Result<(), AllocError>
+fn add_terms<'a>(items: &mut Items<'a>, terms: &'a [Term]) -> Result<(), AllocError>
     ensures { OnOk result ((p : Part' → Bool) → list_any p (items_of_refs items.new) ≡ (any_names (λ k. p (Grouping k)) (map view_term terms.now) || list_any p (items_of_refs items.old))) }
 {
     for term in terms {
@@ -97,7 +90,7 @@ fn add_terms<'a>(items: &mut BTreeSet<ItemRef<'a>>, terms: &'a [Term]) -> Result
 
 /// Returns whether an item is one of some. Does not allocate.
 #[tactic(auto, using(crate::proofs::Sets::item_held))]
-pub(crate) fn has_item<'a>(items: &BTreeSet<ItemRef<'a>>, item: &ItemRef<'a>) -> bool
+pub(crate) fn has_item<'a>(items: &Items<'a>, item: &ItemRef<'a>) -> bool
     ensures { result ≡ list_any (same_item (item_of_ref item.now)) (items_of_refs items.now) }
 {
     items.contains(item)
@@ -105,7 +98,7 @@ pub(crate) fn has_item<'a>(items: &BTreeSet<ItemRef<'a>>, item: &ItemRef<'a>) ->
 
 /// If a definition is that of a grouping that is one of the items, adds the groupings that its terms name. Returns `AllocError`
 /// if an allocation fails.
-fn add_built_from<'a>(items: &mut BTreeSet<ItemRef<'a>>, plain: &'a Plain) -> Result<(), AllocError>
+fn add_built_from<'a>(items: &mut Items<'a>, plain: &'a Plain) -> Result<(), AllocError>
     ensures { OnOk result ((x : Part') → list_any (same_item x) (items_of_refs items.new) ≡ and_terms (view_plain plain.now) (λ y. list_any (same_item y) (items_of_refs items.old)) x) }
 {
     if let Plain::Grouping(grouping) = plain {
@@ -119,11 +112,7 @@ fn add_built_from<'a>(items: &mut BTreeSet<ItemRef<'a>>, plain: &'a Plain) -> Re
 
 /// Adds the groupings that the items are built from, directly or through others: a term names only groupings that are defined
 /// before it. Returns `AllocError` if an allocation fails.
-fn add_bases<'a>(
-    alloc: Global,
-    items: &mut BTreeSet<ItemRef<'a>>,
-    script: &'a Script,
-) -> Result<(), AllocError>
+fn add_bases<'a>(alloc: Global, items: &mut Items<'a>, script: &'a Script) -> Result<(), AllocError>
     ensures { OnOk result ((x : Part') → list_any (same_item x) (items_of_refs items.new) ≡ list_any (is_affected_by (source_of script.now) x) (items_of_refs items.old)) }
 {
     let in_order = items_in_order(alloc, script.items())?;
@@ -141,7 +130,7 @@ pub(crate) fn met_by_words<'a>(
     alloc: Global,
     bench: &'a Bench,
     words: &[&[char]],
-) -> Result<BTreeSet<ItemRef<'a>>, AllocError>
+) -> Result<Items<'a>, AllocError>
     ensures { texts_of words.now ≡ bench.now.words → IfOk result (HasMet (setting_of bench.now) bench.now.words) }
 {
     let mut items = touched_by_words(alloc, bench, words)?;

@@ -1,7 +1,7 @@
 //! The text of the rows of what no word uses.
 
 ghost use Rattle.std.specs.Prelude.{◌≡◌, ◌++◌, [], OnOk, IfOk};
-ghost use Rattle.std.specs.List.{flat_map};
+ghost use Rattle.std.specs.List.{flat_map, list_any};
 ghost use Rattle.csv.specs.Records.{fields_of, partial_of};
 ghost use Rattle.sbl_bench.specs.KeptRuns.{setting_of};
 ghost use Rattle.sbl_rows.specs.Setting.{Setting};
@@ -10,21 +10,20 @@ ghost use Rattle.sbl_io.specs.Records.{record_line};
 ghost use Rattle.sbl_io.specs.Reports.{TakesMore};
 ghost use Rattle.sbl_explain.specs.TakesRows.{TakesRows, parts_text};
 ghost use Rattle.sbl_explain.specs.Unused as spec;
-ghost use Rattle.sbl_explain.specs.UnusedViews.{IsUsed, Words, part_of, parts_in, texts_of};
+ghost use Rattle.sbl_explain.specs.UnusedViews.{IsUsed, Words, part_of, parts_in, takes_in};
 ghost use Rattle.sbl_explain.specs.Kept.{KeepsWords};
 
 use crate::bench_words::words_of;
 use crate::kept_takes::KeptTakes;
 use crate::kept_words::{KeptWord, takes_of_words};
-use crate::takes::{Takes, has_take};
-use crate::touched_items::{has_item, met_by_words};
+use crate::takes::Takes;
+use crate::touched_items::{Items, has_item, met_by_words};
 use crate::usable_parts::{Parts, parts_of};
 use csv::ByteRecord;
 use sbl_bench::Bench;
 use sbl_io::{Report, ReportLength, ReportText, text_of};
 use sbl_machine::ItemRef;
 use std::alloc::{AllocError, Global};
-use std::collections::BTreeSet;
 
 /// Appends the name of an item or of its routine, and the number of an among. Returns `AllocError` if an allocation fails.
 pub(crate) fn push_place(
@@ -88,120 +87,104 @@ fn push_entry<T: Report>(
 #[derive(Clone, Copy)]
 struct Used<'s, 'a> {
     alloc: Global,
-    met: &'s BTreeSet<ItemRef<'a>>,
+    met: &'s Items<'a>,
     taken: &'s Takes<'a>,
 }
 
-/// Appends the line of an item, unless a word meets it. Returns `AllocError` if an allocation fails.
-fn push_unmet<'a, T: Report>(
-    out: &mut T,
-    used: &Used<'_, 'a>,
-    item: &ItemRef<'a>,
-) -> Result<(), AllocError>
-    ensures { (s : Setting) (ws : Words) → IsUsed s ws used.now → OnOk result (TakesRows T.has_taken out.old out.new (spec.item_rows s ws (item_of_ref item.now))) }
-{
-    if has_item(used.met, item) {
+impl<'s, 'a> Used<'s, 'a> {
+    /// Returns whether a string is taken at an among. Returns `AllocError` if an allocation fails.
+    #[tactic(auto, using(crate::proofs::Sets::take_held))]
+    fn has_take(&self, among: &ItemRef<'a>, string: &[char]) -> Result<bool, AllocError>
+        ensures { IfOk result (λ b. b ≡ list_any (spec.same_take (item_of_ref among.now, string.now)) (takes_in self.now.taken.now)) }
+    {
+        let key = (*among, Vec::from_slice(self.alloc, string)?);
+        Ok(self.taken.contains(&key))
+    }
+
+    /// Appends the line of an item, unless a word meets it. Returns `AllocError` if an allocation fails.
+    fn push_unmet<T: Report>(&self, out: &mut T, item: &ItemRef<'a>) -> Result<(), AllocError>
+        ensures { (s : Setting) (ws : Words) → IsUsed s ws self.now → OnOk result (TakesRows T.has_taken out.old out.new (spec.item_rows s ws (item_of_ref item.now))) }
+    {
+        if has_item(self.met, item) {
+            Ok(())
+        } else {
+            push_item(self.alloc, out, item)
+        }
+    }
+
+    /// Appends the line of a string of an among, unless a word takes it there. Returns `AllocError` if an allocation fails.
+    fn push_untaken<T: Report>(
+        &self,
+        out: &mut T,
+        among: &ItemRef<'a>,
+        string: &[char],
+    ) -> Result<(), AllocError>
+        ensures { (s : Setting) (ws : Words) → IsUsed s ws self.now → OnOk result (TakesRows T.has_taken out.old out.new (spec.string_rows s ws (item_of_ref among.now, string.now))) }
+    {
+        if self.has_take(among, string)? {
+            Ok(())
+        } else {
+            push_entry(self.alloc, out, among, string)
+        }
+    }
+
+    /// Appends the lines of the items that no word meets. Returns `AllocError` if an allocation fails.
+    fn push_items<T: Report>(&self, out: &mut T, parts: &Parts<'a>) -> Result<(), AllocError>
+        ensures { (s : Setting) (ws : Words) → IsUsed s ws self.now → OnOk result (TakesRows T.has_taken out.old out.new (spec.unmet_rows s ws (parts_in parts.now))) }
+    {
+        for (item, _) in parts.iter() {
+            self.push_unmet(out, item)?;
+        }
         Ok(())
-    } else {
-        push_item(used.alloc, out, item)
     }
-}
 
-/// Appends the line of a string of an among, unless a word takes it there. Returns `AllocError` if an allocation fails.
-fn push_untaken<'a, T: Report>(
-    out: &mut T,
-    used: &Used<'_, 'a>,
-    among: &ItemRef<'a>,
-    string: &[char],
-) -> Result<(), AllocError>
-    ensures { (s : Setting) (ws : Words) → IsUsed s ws used.now → OnOk result (TakesRows T.has_taken out.old out.new (spec.string_rows s ws (item_of_ref among.now, string.now))) }
-{
-    if has_take(used.alloc, used.taken, among, string)? {
+    /// Appends the lines of the strings of one part that no word takes there, if a word meets it. Returns `AllocError` if an
+    /// allocation fails.
+    fn push_part<T: Report>(
+        &self,
+        out: &mut T,
+        item: &ItemRef<'a>,
+        strings: &[&[char]],
+    ) -> Result<(), AllocError>
+        ensures { (s : Setting) (ws : Words) → IsUsed s ws self.now → OnOk result (TakesRows T.has_taken out.old out.new (spec.entry_rows s ws (part_of item.now strings.now))) }
+    {
+        if !has_item(self.met, item) {
+            return Ok(());
+        }
+        for string in strings {
+            self.push_untaken(out, item, string)?;
+        }
         Ok(())
-    } else {
-        push_entry(used.alloc, out, among, string)
     }
-}
 
-/// Appends the lines of the strings of an among that no word takes there. Returns `AllocError` if an allocation fails.
-fn push_strings<'a, T: Report>(
-    out: &mut T,
-    used: &Used<'_, 'a>,
-    among: &ItemRef<'a>,
-    strings: &[&[char]],
-) -> Result<(), AllocError>
-    ensures { (s : Setting) (ws : Words) → IsUsed s ws used.now → OnOk result (TakesRows T.has_taken out.old out.new (spec.untaken_rows s ws (item_of_ref among.now) (texts_of strings.now))) }
-{
-    for string in strings {
-        push_untaken(out, used, among, string)?;
+    /// Appends the lines of the strings that no word takes. Returns `AllocError` if an allocation fails.
+    fn push_entries<T: Report>(&self, out: &mut T, parts: &Parts<'a>) -> Result<(), AllocError>
+        ensures { (s : Setting) (ws : Words) → IsUsed s ws self.now → OnOk result (TakesRows T.has_taken out.old out.new (flat_map (spec.entry_rows s ws) (parts_in parts.now))) }
+    {
+        for (item, strings) in parts.iter() {
+            self.push_part(out, item, strings)?;
+        }
+        Ok(())
     }
-    Ok(())
-}
 
-/// Appends the lines of the items that no word meets. Returns `AllocError` if an allocation fails.
-fn push_items<'a, T: Report>(
-    out: &mut T,
-    used: &Used<'_, 'a>,
-    parts: &Parts<'a>,
-) -> Result<(), AllocError>
-    ensures { (s : Setting) (ws : Words) → IsUsed s ws used.now → OnOk result (TakesRows T.has_taken out.old out.new (spec.unmet_rows s ws (parts_in parts.now))) }
-{
-    for (item, _) in parts.iter() {
-        push_unmet(out, used, item)?;
+    /// Appends the lines of what no word uses. Returns `AllocError` if an allocation fails.
+    fn push_rows<T: Report>(&self, out: &mut T, parts: &Parts<'a>) -> Result<(), AllocError>
+        ensures { (s : Setting) (ws : Words) → IsUsed s ws self.now → OnOk result (TakesRows T.has_taken out.old out.new (spec.rows_of_parts s ws (parts_in parts.now))) }
+    {
+        self.push_items(out, parts)?;
+        self.push_entries(out, parts)
     }
-    Ok(())
-}
 
-/// Appends the lines of the strings of one part, if a word meets it. Returns `AllocError` if an allocation fails.
-fn push_part<'a, T: Report>(
-    out: &mut T,
-    used: &Used<'_, 'a>,
-    item: &ItemRef<'a>,
-    strings: &[&[char]],
-) -> Result<(), AllocError>
-    ensures { (s : Setting) (ws : Words) → IsUsed s ws used.now → OnOk result (TakesRows T.has_taken out.old out.new (spec.entry_rows s ws (part_of item.now strings.now))) }
-{
-    if !has_item(used.met, item) {
-        return Ok(());
+    /// Returns the rows of what no word uses, given what the words meet and take. Returns `AllocError` if an allocation fails.
+    fn text_of_rows(&self, parts: &Parts<'a>) -> Result<Vec<u8>, AllocError>
+        ensures { (s : Setting) (ws : Words) → IsUsed s ws self.now → IfOk result (λ text. text.items ≡ parts_text s ws (parts_in parts.now)) }
+    {
+        let mut length = ReportLength::new();
+        self.push_rows(&mut length, parts)?;
+        let mut out = ReportText::with_length(self.alloc, &length)?;
+        self.push_rows(&mut out, parts)?;
+        out.into_bytes()
     }
-    push_strings(out, used, item, strings)
-}
-
-/// Appends the lines of the strings that no word takes. Returns `AllocError` if an allocation fails.
-fn push_entries<'a, T: Report>(
-    out: &mut T,
-    used: &Used<'_, 'a>,
-    parts: &Parts<'a>,
-) -> Result<(), AllocError>
-    ensures { (s : Setting) (ws : Words) → IsUsed s ws used.now → OnOk result (TakesRows T.has_taken out.old out.new (flat_map (spec.entry_rows s ws) (parts_in parts.now))) }
-{
-    for (item, strings) in parts.iter() {
-        push_part(out, used, item, strings)?;
-    }
-    Ok(())
-}
-
-/// Appends the lines of what no word uses. Returns `AllocError` if an allocation fails.
-fn push_rows<'a, T: Report>(
-    out: &mut T,
-    used: &Used<'_, 'a>,
-    parts: &Parts<'a>,
-) -> Result<(), AllocError>
-    ensures { (s : Setting) (ws : Words) → IsUsed s ws used.now → OnOk result (TakesRows T.has_taken out.old out.new (spec.rows_of_parts s ws (parts_in parts.now))) }
-{
-    push_items(out, used, parts)?;
-    push_entries(out, used, parts)
-}
-
-/// Returns the rows of what no word uses, given what the words meet and take. Returns `AllocError` if an allocation fails.
-fn text_of_rows<'a>(used: &Used<'_, 'a>, parts: &Parts<'a>) -> Result<Vec<u8>, AllocError>
-    ensures { (s : Setting) (ws : Words) → IsUsed s ws used.now → IfOk result (λ text. text.items ≡ parts_text s ws (parts_in parts.now)) }
-{
-    let mut length = ReportLength::new();
-    push_rows(&mut length, used, parts)?;
-    let mut out = ReportText::with_length(used.alloc, &length)?;
-    push_rows(&mut out, used, parts)?;
-    out.into_bytes()
 }
 
 /// Returns the rows of what no word uses, given what the words take. Returns `AllocError` if an allocation fails.
@@ -217,7 +200,7 @@ fn text_of_unused(alloc: Global, bench: &Bench, words: &[KeptWord]) -> Result<Ve
         met: &met,
         taken: &taken,
     };
-    text_of_rows(&used, &parts)
+    used.text_of_rows(&parts)
 }
 
 /// Returns the rows of what no word of the vocabulary uses, under the script and the limit of the bench: the routines, amongs and

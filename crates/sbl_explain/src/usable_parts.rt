@@ -63,13 +63,7 @@ fn put_plain<'a>(alloc: Global, parts: &mut Parts<'a>, plain: &'a Plain) -> Resu
         Plain::Grouping(grouping) => {
             put_part(parts, ItemRef::Grouping(&grouping.name), Vec::new(alloc))
         }
-        Plain::Declaration(_, _)
-        | Plain::StringEscapes(_, _)
-        | Plain::StringDef {
-            name: _,
-            base: _,
-            value: _,
-        } => Ok(()),
+        Plain::Declaration(_, _) | Plain::StringEscapes(_, _) | Plain::StringDef { .. } => Ok(()),
     }
 }
 

@@ -82,13 +82,7 @@ fn push_plain<'a>(
             push_amongs(alloc, usables, name, &amongs_of(alloc, body)?)
         }
         Plain::Grouping(grouping) => { push_part(usables, ItemRef::Grouping(&grouping.name), &[]) }
-        Plain::Declaration(_, _)
-        | Plain::StringEscapes(_, _)
-        | Plain::StringDef {
-            name: _,
-            base: _,
-            value: _,
-        } => Ok(()),
+        Plain::Declaration(_, _) | Plain::StringEscapes(_, _) | Plain::StringDef { .. } => Ok(()),
     }
 }
 

@@ -62,6 +62,9 @@ impl From<AllocError> for UsesFault {
     }
 }
 
+/// What is asked about, or why no words are named.
+type Found<'q> = Result<Usable<'q>, UsesFault>;
+
 /// Returns the name that is asked about.
 fn name_in<'q>(question: &Question<'q>) -> &'q str
     ensures { result.now ≡ spec.name_in (question_of question.now) }
@@ -104,11 +107,7 @@ fn has_string(strings: &[&[char]], string: &[char]) -> bool
 }
 
 /// Returns the string of an among that is asked about, given the strings of the among.
-fn entry_in<'q>(
-    among: ItemRef<'q>,
-    string: &'q [char],
-    strings: Option<Vec<&[char]>>,
-) -> Result<Usable<'q>, UsesFault>
+fn entry_in<'q>(among: ItemRef<'q>, string: &'q [char], strings: Option<Vec<&[char]>>) -> Found<'q>
     ensures { IsResult view_usable result (spec.entry_in (item_of_ref among.entry) string.now (option_map (λ v. texts_of v.items) strings.entry)) }
 {
     let Some(strings) = strings else {
@@ -122,11 +121,7 @@ fn entry_in<'q>(
 }
 
 /// Returns what is asked about, given the body of the routine of its name.
-fn usable_in_routine<'q>(
-    alloc: Global,
-    body: &RowOfCommands,
-    question: Question<'q>,
-) -> Result<Usable<'q>, UsesFault>
+fn usable_in_routine<'q>(alloc: Global, body: &RowOfCommands, question: Question<'q>) -> Found<'q>
     ensures { IsResult view_usable result (spec.usable_in_body (view_body body.now) (question_of question.entry)) }
 {
     match question {
@@ -144,7 +139,7 @@ fn usable_in_routine<'q>(
 }
 
 /// Returns what is asked about, if its name is that of a grouping.
-fn usable_of_grouping<'q>(question: Question<'q>) -> Result<Usable<'q>, UsesFault>
+fn usable_of_grouping<'q>(question: Question<'q>) -> Found<'q>
     ensures { IsResult view_usable result (spec.usable_of_terms (question_of question.entry)) }
 {
     match question {
@@ -154,11 +149,7 @@ fn usable_of_grouping<'q>(question: Question<'q>) -> Result<Usable<'q>, UsesFaul
 }
 
 /// Returns the part of a script that is asked about.
-fn usable_for<'q>(
-    alloc: Global,
-    script: &Script,
-    question: Question<'q>,
-) -> Result<Usable<'q>, UsesFault>
+fn usable_for<'q>(alloc: Global, script: &Script, question: Question<'q>) -> Found<'q>
     ensures { IsResult view_usable result (spec.usable_for (source_of script.now) (question_of question.entry)) }
 {
     match definition_of(script.items(), name_in(&question)) {

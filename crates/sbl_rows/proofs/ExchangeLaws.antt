@@ -259,19 +259,16 @@ renamed-turned test ps qs h =
     and_turned false false = refl
 
 -- words that are added, the other way
+came_or_went : (test : Change → Bool) (x : Option Outcome') (r : Row)
+    → (passes test (word_addition x r) ≡ passes (back test) (word_removal x r)) × (passes test (word_removal x r) ≡ passes (back test) (word_addition x r))
+came_or_went test None r = (refl, refl)
+came_or_went test (Some o) r = (refl, refl)
+
 added-removed : (test : Change → Bool) (f : List ℕ → Option Outcome') (rows : List Row) → list_any test (filter_map (λ r. word_addition (f r.word) r) rows) ≡ list_any (back test) (filter_map (λ r. word_removal (f r.word) r) rows)
-added-removed test f rows = alike test (back test) (λ r. word_addition (f r.word) r) (λ r. word_removal (f r.word) r) (λ r. by (f r.word) r) rows
-  where
-    by : (x : Option Outcome') (r : Row) → passes test (word_addition x r) ≡ passes (back test) (word_removal x r)
-    by None r = refl
-    by (Some o) r = refl
+added-removed test f rows = alike test (back test) (λ r. word_addition (f r.word) r) (λ r. word_removal (f r.word) r) (λ r. (came_or_went test (f r.word) r).0) rows
 
 removed-added : (test : Change → Bool) (f : List ℕ → Option Outcome') (rows : List Row) → list_any test (filter_map (λ r. word_removal (f r.word) r) rows) ≡ list_any (back test) (filter_map (λ r. word_addition (f r.word) r) rows)
-removed-added test f rows = alike test (back test) (λ r. word_removal (f r.word) r) (λ r. word_addition (f r.word) r) (λ r. by (f r.word) r) rows
-  where
-    by : (x : Option Outcome') (r : Row) → passes test (word_removal x r) ≡ passes (back test) (word_addition x r)
-    by None r = refl
-    by (Some o) r = refl
+removed-added test f rows = alike test (back test) (λ r. word_removal (f r.word) r) (λ r. word_addition (f r.word) r) (λ r. (came_or_went test (f r.word) r).1) rows
 
 same-back : (o n : Outcome') → same_outcome o n ≡ same_outcome n o
 same-back (Stem s) (Stem t) = bytes_eq-back s t

@@ -9,7 +9,7 @@ use Rattle.std.specs.BTreeSet.{insert_key}
 use Rattle.std.proofs.lemmas.Map.Lookups.{CmpEqualImpliesEq}
 use Rattle.sbl_rows.proofs.Sorting.{any_inserted, mem, sorted-insert}
 
-or_shift : (a b c : Bool) → (a || (b || c)) ≡ ((b || a) || c)
+pub or_shift : (a b c : Bool) → (a || (b || c)) ≡ ((b || a) || c)
 or_shift true true c = refl
 or_shift true false c = refl
 or_shift false true c = refl

@@ -31,12 +31,10 @@ returns-clause-filters g c = λ none.
 
 pub returns-in_err-write_to-clause-remembered : goal.returns-in_err-write_to-clause-remembered
 returns-in_err-write_to-clause-remembered g c = λ none.
-    let held = g.W.Sink.held in
-    let left = g.R.Source.left in
     let p = err_from_is_err_and c.from_residual-in_err-write_to.result c.from_residual-in_err-write_to.ensures.1 in
     let some : c.read_lines-ended.new.rows.text.items ≡ [] → ⊥ = λ none. (let ok = (c.write_to.ensures.none none).0 in let no : ⊥ = cc (ok, c.in_err-write_to.was) in no) in
     rw (p.1, p.2, c.in_err-write_to.ensures.why.0)
-    (to_end-kept (source_of c.args.script.now) (input_of left c.args.lines.now) (input_of left c.read_lines-ended.new.lines) (held c.args.writer.now) (held c.read_lines-ended.new.writer) (held c.write_to.new.writer)
+    (to_end-kept (source_of c.args.script.now) (input_of g.R.Source.left c.args.lines.now) (input_of g.R.Source.left c.read_lines-ended.new.lines) (g.W.Sink.held c.args.writer.now) (g.W.Sink.held c.read_lines-ended.new.writer) (g.W.Sink.held c.write_to.new.writer)
     c.read_lines-ended.new.rows.text.items c.read_lines-ended.new.line c.read_lines-ended.result c.read_lines-ended.new.lines.fault (c.read_lines-ended.ensures.reads (source_of c.args.script.now) c.in_ok-machine.ensures none) (c.read_lines-ended.ensures.remembered none) some)
 
 pub returns-in_err-write_to-clause-why_write : goal.returns-in_err-write_to-clause-why_write

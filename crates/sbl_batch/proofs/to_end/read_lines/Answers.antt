@@ -111,10 +111,9 @@ returns-in_err-filter_line-clause-why g c =
 pub returns-in_err-filter_line-clause-why_write : goal.returns-in_err-filter_line-clause-why_write
 returns-in_err-filter_line-clause-why_write g c =
     let made = c.requires.made in
-    let f = c.in_err-filter_line.field-0.0 in
     let pushes = c.in_err-filter_line.ensures.pushes made.0 made.1 in
     let p = err_from_is_err_and c.from_residual-in_err-filter_line.result c.from_residual-in_err-filter_line.ensures.1 in
-    rw (p.1, p.2) (λ is. absurd (line-no_write made.0 _ _ _ f pushes is))
+    rw (p.1, p.2) (λ is. absurd (line-no_write made.0 _ _ _ c.in_err-filter_line.field-0.0 pushes is))
 
 pub returns-in_err-filter_line-clause-remembered : goal.returns-in_err-filter_line-clause-remembered
 returns-in_err-filter_line-clause-remembered g c = λ none.

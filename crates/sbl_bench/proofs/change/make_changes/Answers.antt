@@ -2,6 +2,8 @@ use Rattle.std.proofs.Common.{◌≡◌, ◌∙◌, false, List, Some, map, leng
 use Rattle.std.specs.List.{All, IsDistinct}
 use Rattle.std.proofs.lemmas.List.{length-map}
 use Rattle.std.specs.Str.{bytes_eq}
+use Rattle.std.specs.declared.vec.Vec.{Vec}
+use Rattle.std.specs.declared.alloc.Global.{Global}
 use Rattle.sbl_bench.specs.inside.Last.{Follows, last_changes, word_found, word_run}
 use Rattle.sbl_bench.specs.inside.Changes.{is_changed}
 use Rattle.sbl_bench.specs.inside.KeptEntries.{KeptWord}
@@ -20,6 +22,13 @@ Now fs c = find c.word.items fs ≡ Some c.traced
 abbrev Stays : List KeptWord → List KeptWord → List Change → Type 0
 Stays es fs cs = (w : Text) → is_changed cs w.items ≡ false → find w.items fs ≡ find w.items es
 
+-- where each change has the word that it had, a list of changes is overwritten by those in their places
+kept_back : (es : List KeptWord) (changes : Vec Change Global) (ls : List Change) → map word_run ls ≡ map (word_found es) changes.items
+    → take changes.len (ls ++ drop (length ls) changes.items) ≡ ls
+kept_back es changes ls was =
+    let same : length ls ≡ length changes.items = sym (length-map ls word_run) ∙ ap length was ∙ length-map changes.items (word_found es) in
+    ap (λ (n : ℕ). take n (ls ++ drop (length ls) changes.items)) changes.ok.0 ∙ take_overwritten ls changes.items same
+
 pub returns-clause-fresh : goal.returns-clause-fresh
 returns-clause-fresh c = λ t anew.
     let es = c.args.traces.now.entries in
@@ -37,9 +46,7 @@ returns-clause-follows c =
     let cs = c.args.changes.items in
     let ls = c.commit.new.changes in
     let was : map word_run ls ≡ map (word_found es) cs = c.commit.ensures.before ∙ ap (map (word_found es)) c.as_mut_slice.ensures.value in
-    let same : length ls ≡ length cs = sym (length-map ls word_run) ∙ ap length was ∙ length-map cs (word_found es) in
-    let back : take c.args.changes.len (ls ++ drop (length ls) cs) ≡ ls = ap (λ (n : ℕ). take n (ls ++ drop (length ls) cs)) c.args.changes.ok.0 ∙ take_overwritten ls cs same in
-    subst (λ (l : List Change). Follows es l fs) (sym back) (follows es fs cs ls was (subst (Stays es fs) c.as_mut_slice.ensures.value c.commit.ensures.others))
+    subst (λ (l : List Change). Follows es l fs) (sym (kept_back es c.args.changes ls was)) (follows es fs cs ls was (subst (Stays es fs) c.as_mut_slice.ensures.value c.commit.ensures.others))
 
 pub returns-clause-last : goal.returns-clause-last
 returns-clause-last c = λ s t fresh anew.
@@ -48,6 +55,4 @@ returns-clause-last c = λ s t fresh anew.
     let cs = c.args.changes.items in
     let ls = c.commit.new.changes in
     let was : map word_run ls ≡ map (word_found es) cs = c.commit.ensures.before ∙ ap (map (word_found es)) c.as_mut_slice.ensures.value in
-    let same : length ls ≡ length cs = sym (length-map ls word_run) ∙ ap length was ∙ length-map cs (word_found es) in
-    let back : take c.args.changes.len (ls ++ drop (length ls) cs) ≡ ls = ap (λ (n : ℕ). take n (ls ++ drop (length ls) cs)) c.args.changes.ok.0 ∙ take_overwritten ls cs same in
-    ap (last_changes fs) back ∙ last_is s t es fs cs ls fresh anew.run (subst (All (Now fs)) c.as_mut_slice.ensures.value c.commit.ensures.run) was
+    ap (last_changes fs) (kept_back es c.args.changes ls was) ∙ last_is s t es fs cs ls fresh anew.run (subst (All (Now fs)) c.as_mut_slice.ensures.value c.commit.ensures.run) was

@@ -8,19 +8,17 @@ use Rattle.sbl_bench.proofs.meeting_rows.affected_rows.Goals as goal
 
 pub loop-word-preserved-in-Continue-1 : goal.loop-word-preserved-in-Continue-1
 loop-word-preserved-in-Continue-1 c =
-    let a = affected_of c.args.affected.now in
     let e : KeptWord = (c.in-Some.word.now, c.in-Some.last.now) in
     let split : c.loop-word.word-iterator ≡ e ∷ c.next.new.self = search (rules, c.in-Some.ensures.steps) in
-    let met : is_met a e ≡ true = sym c.is_affected.ensures ∙ c.if-is_affected.true in
+    let met : is_met (affected_of c.args.affected.now) e ≡ true = sym c.is_affected.ensures ∙ c.if-is_affected.true in
     let before = map view_row c.loop-word.rows.items in
     let more : map view_row c.push_row.new.rows.items ≡ before ++ row_shown e ∷ [] =
     c.in_ok-push_row.ensures ∙ ap (λ (t : List ℕ). before ++ run_row t c.in-Some.last.now ∷ []) c.as_slice.ensures.value in
-    one_shown a before (map view_row c.push_row.new.rows.items) c.loop-word.word-iterator c.next.new.self c.args.traces.now.entries e c.loop-word.invariant split met more
+    one_shown (affected_of c.args.affected.now) before (map view_row c.push_row.new.rows.items) c.loop-word.word-iterator c.next.new.self c.args.traces.now.entries e c.loop-word.invariant split met more
 
 pub loop-word-preserved : goal.loop-word-preserved
 loop-word-preserved c =
-    let a = affected_of c.args.affected.now in
     let e : KeptWord = (c.in-Some.word.now, c.in-Some.last.now) in
     let split : c.loop-word.word-iterator ≡ e ∷ c.next.new.self = search (rules, c.in-Some.ensures.steps) in
-    let off : is_met a e ≡ false = sym c.is_affected.ensures ∙ c.if-is_affected.false in
-    not_shown a (map view_row c.loop-word.rows.items) c.loop-word.word-iterator c.next.new.self c.args.traces.now.entries e c.loop-word.invariant split off
+    let off : is_met (affected_of c.args.affected.now) e ≡ false = sym c.is_affected.ensures ∙ c.if-is_affected.false in
+    not_shown (affected_of c.args.affected.now) (map view_row c.loop-word.rows.items) c.loop-word.word-iterator c.next.new.self c.args.traces.now.entries e c.loop-word.invariant split off

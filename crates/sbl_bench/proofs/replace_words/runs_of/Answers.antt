@@ -66,11 +66,11 @@ returns-in_err-last-clause-told g c =
 pub returns-in_err-put-clause-stop : goal.returns-in_err-put-clause-stop
 returns-in_err-put-clause-stop g c =
     let f = err_from_is_err_and c.from_residual-in_err-put.result c.from_residual-in_err-put.ensures.1 in
+    let is = c.in_ok-last.ensures.counted in
+    let room = c.requires.room in
     let left = runs_left (words_in c.args.before.now.entries) c.args.words.now c.loop-word.word-index c.loop-word-test.true in
     let so = c.loop-word.invariant.counted in
     let more = c.loop-word.invariant.more in
-    let is = c.in_ok-last.ensures.counted in
-    let room = c.requires.room in
     rw (f.1, f.2) (inr (c.run_of.new.meter - c.args.meter.now, omega arith, omega arith, omega arith))
 
 pub returns-in_err-put-clause-told : goal.returns-in_err-put-clause-told

@@ -1,19 +1,13 @@
-use Rattle.std.proofs.Common.{subst, sym, ◌≡◌, ◌∙◌, ap, refl, rules, List, ℕ, Bool, true, false, inl, IfOk, Result, Ok, Err}
+use Rattle.std.proofs.Common.{subst, sym, ◌≡◌, ◌∙◌, ap, refl, rules, List, ℕ, true, inl, IfOk, Result, Ok, Err}
 use Rattle.std.specs.declared.vec.Vec.{Vec}
 use Rattle.std.specs.declared.alloc.Global.{Global}
 use Rattle.sbl_input.specs.declared.faults.LoadFault.{LoadFault}
 use Rattle.std.specs.Str.{chars, is_utf8, IsAscii, IsUtf8}
 use Rattle.std.proofs.lemmas.Iterator.{YieldsList-from_chars}
 use Rattle.std.proofs.lemmas.Iterator.Adapters.{items_from_extend}
-use Rattle.std.proofs.lemmas.Str.{chars-IsAscii, IsUtf8-from_ascii, IsUtf8-from_is_utf8, is_utf8-from_IsUtf8}
+use Rattle.std.proofs.lemmas.Str.{chars-IsAscii, IsUtf8-from_ascii, is_utf8-from_IsUtf8}
+use Rattle.sbl_input.proofs.FileFacts.{no_utf8}
 use Rattle.sbl_input.proofs.loading.characters_of.Goals as goal
-
-of_bytes : (line : List ℕ) → ¬ (IsUtf8 line) → is_utf8 line ≡ false
-of_bytes line none = by (is_utf8 line) refl
-  where
-    by : (t : Bool) → is_utf8 line ≡ t → is_utf8 line ≡ false
-    by true e = absurd (none (IsUtf8-from_is_utf8 line e))
-    by false e = e
 
 -- the characters of ASCII are its bytes
 read_ascii : (r : Result (Vec ℕ Global) LoadFault) (line : List ℕ) → IsAscii line → IfOk r (λ word. word.items ≡ line)
@@ -22,7 +16,7 @@ read_ascii (Ok word) line ascii is = (is_utf8-from_IsUtf8 line (IsUtf8-from_asci
 read_ascii (Err f) line ascii is = tt
 
 pub returns-in_default-clause-none : goal.returns-in_default-clause-none
-returns-in_default-clause-none c = inl (refl, of_bytes c.args.line.now c.in_default.ensures.cases.0)
+returns-in_default-clause-none c = inl (refl, no_utf8 c.args.line.now c.in_default.ensures.cases.0)
 
 pub returns-clause-text : goal.returns-clause-text
 returns-clause-text c =

@@ -27,13 +27,12 @@ returns-in_err-word-clause-reads g c = λ _.
 
 pub returns-in_err-push-clause-reads : goal.returns-in_err-push-clause-reads
 returns-in_err-push-clause-reads g c = λ _.
-    let left = g.R.Source.left in
     let so = c.loop-words.invariant in
     let line = line_of c.next_line.new.self in
     let other : line ≢ point = search rules in
-    let took = took-trans _ (input_of left c.loop-words.lines) _ so.0 (line ∷ []) so.3 (c.in_ok-next_line.ensures.more c.if-branch.true) in
+    let took = took-trans _ (input_of g.R.Source.left c.loop-words.lines) _ so.0 (line ∷ []) so.3 (c.in_ok-next_line.ensures.more c.if-branch.true) in
     let p = err_from_is_err_and c.from_residual-in_err-push.result c.from_residual-in_err-push.ensures.1 in
-    rw (p.1, p.2) (words_stopped (input_of left c.args.lines.now) _ so.0 line so.1 so.7 other (c.in_ok-next_line.ensures.fits c.if-branch.true) took)
+    rw (p.1, p.2) (words_stopped (input_of g.R.Source.left c.args.lines.now) _ so.0 line so.1 so.7 other (c.in_ok-next_line.ensures.fits c.if-branch.true) took)
 
 pub returns-then-eq-clause-reads : goal.returns-then-eq-clause-reads
 returns-then-eq-clause-reads g c = λ _.

@@ -42,11 +42,9 @@ loop-pair-preserved c =
 
 pub returns-else-eq-clause-words : goal.returns-else-eq-clause-words
 returns-else-eq-clause-words c =
-    let stem = c.args.stem.now in
-    let ks = c.loop-pair.pair-iterator in
     let rest = c.next.new.self in
     let pair : Key = c.in-Some.pair.now in
-    let split : ks ≡ pair ∷ rest = search (rules, c.in-Some.ensures.steps) in
-    let other : bytes_eq stem pair.0.items ≡ false = sym (c.eq.ensures ∙ ap (bytes_eq stem) c.as_slice.ensures.value) ∙ c.if-eq.false in
+    let split : c.loop-pair.pair-iterator ≡ pair ∷ rest = search (rules, c.in-Some.ensures.steps) in
+    let other : bytes_eq c.args.stem.now pair.0.items ≡ false = sym (c.eq.ensures ∙ ap (bytes_eq c.args.stem.now) c.as_slice.ensures.value) ∙ c.if-eq.false in
     let old = words_of c.loop-pair.words.items in
-    sym (append-nil old) ∙ ap (λ (ws : List (List ℕ)). old ++ ws) (sym (none_later stem ks rest pair split c.loop-pair.invariant.from other)) ∙ c.loop-pair.invariant.words
+    sym (append-nil old) ∙ ap (λ (ws : List (List ℕ)). old ++ ws) (sym (none_later c.args.stem.now c.loop-pair.pair-iterator rest pair split c.loop-pair.invariant.from other)) ∙ c.loop-pair.invariant.words

@@ -14,23 +14,19 @@ use Rattle.sbl_bench.proofs.bench.Bench.class_with.Goals as goal
 
 pub returns-then-is_empty : goal.returns-then-is_empty
 returns-then-is_empty c =
-    let b = c.self.inside in
-    let s = under (source_of b.script) b.limit in
-    let stem = c.args.stem.now in
-    let rows = rows_of s (words_in b.traces.entries) in
+    let s = under (source_of c.self.inside.script) c.self.inside.limit in
+    let rows = rows_of s (words_in c.self.inside.traces.entries) in
     let words = words_of c.in_ok-words.words.items in
-    let is : words ≡ in_order (words_with stem rows) = c.in_ok-words.ensures s c.self.invariant.1.fresh in
+    let is : words ≡ in_order (words_with c.args.stem.now rows) = c.in_ok-words.ensures s c.self.invariant.1.fresh in
     let none : length words ≡ 0 = grind (arith, common_steps) in
-    class_absent rows stem words is none ∙ ap (λ (k : KeptRuns). find (λ (x : Class). bytes_eq stem x.stem) (classes_of (rows_of (setting_of k) k.words))) c.self.view_is
+    class_absent rows c.args.stem.now words is none ∙ ap (λ (k : KeptRuns). find (λ (x : Class). bytes_eq c.args.stem.now x.stem) (classes_of (rows_of (setting_of k) k.words))) c.self.view_is
 
 pub returns : goal.returns
 returns c =
-    let b = c.self.inside in
-    let s = under (source_of b.script) b.limit in
-    let stem = c.args.stem.now in
-    let rows = rows_of s (words_in b.traces.entries) in
+    let s = under (source_of c.self.inside.script) c.self.inside.limit in
+    let rows = rows_of s (words_in c.self.inside.traces.entries) in
     let words = words_of c.in_ok-words.words.items in
-    let is : words ≡ in_order (words_with stem rows) = c.in_ok-words.ensures s c.self.invariant.1.fresh in
+    let is : words ≡ in_order (words_with c.args.stem.now rows) = c.in_ok-words.ensures s c.self.invariant.1.fresh in
     let some : 0 < length words = grind (arith, common_steps) in
     ap (λ (t : List ℕ). Some (record { stem = t; members = words })) c.in_ok-stem.ensures.items
-    ∙ class_there rows stem words is some ∙ ap (λ (k : KeptRuns). find (λ (x : Class). bytes_eq stem x.stem) (classes_of (rows_of (setting_of k) k.words))) c.self.view_is
+    ∙ class_there rows c.args.stem.now words is some ∙ ap (λ (k : KeptRuns). find (λ (x : Class). bytes_eq c.args.stem.now x.stem) (classes_of (rows_of (setting_of k) k.words))) c.self.view_is

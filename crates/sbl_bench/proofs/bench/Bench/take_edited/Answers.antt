@@ -20,24 +20,18 @@ pub take_script-requires : goal.take_script-requires
 take_script-requires g c =
     let e = c.requires.0 in
     let text = c.requires.1 in
-    let p = source_of c.self.inside.script in
     let q = source_of c.args.script in
-    let l = c.self.inside.limit in
-    let x = item_of c.args.item.now in
-    let s : Contents = record { setting = under p l; words = words_in c.self.inside.traces.entries; count = c.self.inside.meter } in
+    let s : Contents = record { setting = under (source_of c.self.inside.script) c.self.inside.limit; words = words_in c.self.inside.traces.entries; count = c.self.inside.meter } in
     let a = affected_of c.in_ok-affected.affected in
-    let taken : IsTaken s e text q x = subst (λ (k : KeptRuns). IsTaken (contents_of k) e text q x) (sym c.self.view_is) c.requires.2 in
-    let b : Brings s (Replace e text) (under q l) a = edited_brings c.untouched_stay.ensures c.one_item_alone.ensures.meets c.edits_agree.ensures.there s e text q x taken c.is_well_declared.ensures (map item_of c.from_ref-items.result.now) (ap (map item_of) c.from_ref-items.ensures.value) a (c.in_ok-affected.ensures c.self.invariant.0) in
+    let taken : IsTaken s e text q (item_of c.args.item.now) = subst (λ (k : KeptRuns). IsTaken (contents_of k) e text q (item_of c.args.item.now)) (sym c.self.view_is) c.requires.2 in
+    let b : Brings s (Replace e text) (under q c.self.inside.limit) a = edited_brings c.untouched_stay.ensures c.one_item_alone.ensures.meets c.edits_agree.ensures.there s e text q _ taken c.is_well_declared.ensures (map item_of c.from_ref-items.result.now) (ap (map item_of) c.from_ref-items.ensures.value) a (c.in_ok-affected.ensures c.self.invariant.0) in
     (Replace e text, subst (λ (k : KeptRuns). Brings (contents_of k) (Replace e text) (under q k.limit) a) c.self.view_is b)
 
 pub returns-clause-edits : goal.returns-clause-edits
 returns-clause-edits g c e text is =
-    let p = source_of c.self.inside.script in
     let q = source_of c.args.script in
-    let l = c.self.inside.limit in
-    let x = item_of c.args.item.now in
-    let s : Contents = record { setting = under p l; words = words_in c.self.inside.traces.entries; count = c.self.inside.meter } in
+    let s : Contents = record { setting = under (source_of c.self.inside.script) c.self.inside.limit; words = words_in c.self.inside.traces.entries; count = c.self.inside.meter } in
     let a = affected_of c.in_ok-affected.affected in
-    let taken : IsTaken s e text q x = subst (λ (k : KeptRuns). IsTaken (contents_of k) e text q x) (sym c.self.view_is) is in
-    let b : Brings s (Replace e text) (under q l) a = edited_brings c.untouched_stay.ensures c.one_item_alone.ensures.meets c.edits_agree.ensures.there s e text q x taken c.is_well_declared.ensures (map item_of c.from_ref-items.result.now) (ap (map item_of) c.from_ref-items.ensures.value) a (c.in_ok-affected.ensures c.self.invariant.0) in
+    let taken : IsTaken s e text q (item_of c.args.item.now) = subst (λ (k : KeptRuns). IsTaken (contents_of k) e text q (item_of c.args.item.now)) (sym c.self.view_is) is in
+    let b : Brings s (Replace e text) (under q c.self.inside.limit) a = edited_brings c.untouched_stay.ensures c.one_item_alone.ensures.meets c.edits_agree.ensures.there s e text q _ taken c.is_well_declared.ensures (map item_of c.from_ref-items.result.now) (ap (map item_of) c.from_ref-items.ensures.value) a (c.in_ok-affected.ensures c.self.invariant.0) in
     c.take_script.ensures.edits (Replace e text) (subst (λ (k : KeptRuns). Brings (contents_of k) (Replace e text) (under q k.limit) a) c.self.view_is b)

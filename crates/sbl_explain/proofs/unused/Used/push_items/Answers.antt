@@ -6,7 +6,7 @@ use Rattle.sbl_explain.specs.Parts.{Part}
 use Rattle.sbl_explain.specs.Unused as spec
 use Rattle.sbl_explain.specs.UnusedViews.{view_parts}
 use Rattle.sbl_explain.proofs.UnusedLines.{text_of_more}
-use Rattle.sbl_explain.proofs.unused.push_items.Goals as goal
+use Rattle.sbl_explain.proofs.unused.Used.push_items.Goals as goal
 
 pub returns : goal.returns
 returns g c = λ s words is.

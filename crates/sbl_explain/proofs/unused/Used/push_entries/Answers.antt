@@ -7,7 +7,7 @@ use Rattle.sbl_explain.specs.Unused as spec
 use Rattle.sbl_machine.specs.ItemRefs.{item_of_ref}
 use Rattle.sbl_explain.specs.UnusedViews.{texts_of, view_parts}
 use Rattle.sbl_explain.proofs.UnusedLines.{text_of_more}
-use Rattle.sbl_explain.proofs.unused.push_entries.Goals as goal
+use Rattle.sbl_explain.proofs.unused.Used.push_entries.Goals as goal
 
 pub returns : goal.returns
 returns g c = λ s words is.

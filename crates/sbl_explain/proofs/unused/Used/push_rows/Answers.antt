@@ -3,7 +3,7 @@ use Rattle.sbl_explain.proofs.UnusedLines.{two_taken}
 use Rattle.sbl_explain.specs.Parts.{Part}
 use Rattle.sbl_explain.specs.Unused as spec
 use Rattle.sbl_explain.specs.UnusedViews.{view_parts}
-use Rattle.sbl_explain.proofs.unused.push_rows.Goals as goal
+use Rattle.sbl_explain.proofs.unused.Used.push_rows.Goals as goal
 
 pub returns : goal.returns
 returns g c = λ s words is.
