@@ -82,7 +82,7 @@ all_of : (n : ℕ) (xs : List ℕ) → length xs ≤ n → take n xs ≡ xs
 all_of n xs h = grind (arith, common_steps)
 
 -- the first 256 characters of a word say what becomes of it
-pub by_first : (r : Result (Unit {0}) EditFault) (s t : Contents) (word : List ℕ) → Edits r s (Add (take 256 word)) t → Edits r s (Add word) t
+by_first : (r : Result (Unit {0}) EditFault) (s t : Contents) (word : List ℕ) → Edits r s (Add (take 256 word)) t → Edits r s (Add word) t
 by_first r s t word h = by (nat_lt 256 (length word)) refl
   where
     by : (b : Bool) → nat_lt 256 (length word) ≡ b → Edits r s (Add word) t
@@ -94,6 +94,12 @@ by_first r s t word h = by (nat_lt 256 (length word)) refl
         let short : length word ≤ 256 = grind (arith, nat_tests) in
         let whole : take 256 word ≡ word = all_of 256 word short in
         subst (λ (w : List ℕ). Edits r s (Add w) t) whole h
+
+pub add_answered : (r : Result (Unit {0}) EditFault) (s t : Contents) (word cut text : List ℕ) → cut ≡ take 256 word → Edits r s (Add cut) t → text ≡ edit_text (fault_in r)
+    → IsEditAnswer s (Add word) text t
+add_answered r s t word cut text first adds told =
+    let all : Edits r s (Add (take 256 word)) t = subst (λ (w : List ℕ). Edits r s (Add w) t) first adds in
+    subst (λ (x : List ℕ). IsEditAnswer s (Add word) x t) (sym told) (answer_of_edit r s t (Add word) (by_first r s t word all))
 
 -- ---- an edit of the script
 

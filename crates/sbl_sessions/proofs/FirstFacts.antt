@@ -42,6 +42,10 @@ looks words fit word = by (nat_lt 255 (length word)) refl
         Neither (absent words fit word long) (absent words fit (take 256 word) cut)
     by false e = let short : length word ≤ 255 = grind (arith, nat_tests) in Whole (take_all 256 word (omega (arith, short)))
 
+-- what is taken of a word, in room for 256 characters
+pub first_taken : (n : ℕ) (room word : List ℕ) → length room ≡ 256 → take n room ≡ take (length room) word → take n room ≡ take 256 word
+first_taken n room word is taken = subst (λ (m : ℕ). take n room ≡ take m word) is taken
+
 -- ---- the trace
 
 pub trace_first : (s : Setting) (words : List (List ℕ)) (word : List ℕ) → Looks words word → trace_of s words (take 256 word) ≡ trace_of s words word
