@@ -72,13 +72,11 @@ fn has_end(text: &[u8]) -> bool {
 
 /// Returns whether a word or a sign of a comment can have this fault.
 fn is_of_comment(fault: ScriptFault) -> bool {
-    matches!(
-        fault,
-        ScriptFault::Syntax { .. }
-            | ScriptFault::BadCharacter { .. }
-            | ScriptFault::UnclosedString { .. }
-            | ScriptFault::OutOfProfile { .. }
-    )
+    match fault {
+        ScriptFault::BadCharacter { .. } | ScriptFault::UnclosedString { .. } => true,
+        ScriptFault::Syntax { .. } | ScriptFault::OutOfProfile { .. } => true,
+        _ => false,
+    }
 }
 
 /// Appends that the place is after the end of a comment that has another one inside it, if that is so and a `*/` is left over, or that

@@ -1,5 +1,5 @@
 -- What an edit answers, as a session answers it.
-use Rattle.std.proofs.Common.{codes, if◌then◌else◌, ◌≡◌, ◌⊎◌, inl, inr, ◌∙◌, ◌≤◌, ◌<◌, ◌+◌, ℕ, Bool, true, false, List, [], ◌∷◌, length, take, Option, Some, None, Result, Ok, Err, refl, sym, ap, subst, arith, nat_lt, length-take}
+use Rattle.std.proofs.Common.{codes, if◌then◌else◌, ◌≡◌, ◌⊎◌, inl, inr, ◌∙◌, ◌≤◌, ◌<◌, ◌+◌, ℕ, Bool, Bor, true, false, List, [], ◌∷◌, length, take, Option, Some, None, Result, Ok, Err, refl, sym, ap, subst, arith, nat_lt, length-take}
 use Rattle.std.proofs.lemmas.Bool.Decides.{nat_tests}
 use Rattle.std.proofs.lemmas.Grind.{common_steps}
 use Rattle.std.specs.Option.{is_some, option_map_or}
@@ -13,9 +13,10 @@ use Rattle.sbl_text.specs.declared.fault.ScriptFault.{ScriptFault}
 use Rattle.sbl_text.specs.declared.fault.ScriptFault.TheVariants as script
 use Rattle.sbl_sessions.specs.Answers.{BlockRefused, Enough, RefusedAfter, edit_text, with_line_feed}
 use Rattle.sbl_reports.specs.Block.{HasText, made_text, max_script}
-use Rattle.sbl_sessions.specs.CommandViews.{IsEditAnswer, IsTextAnswer}
+use Rattle.sbl_sessions.specs.CommandViews.{IsAnswer, IsEditAnswer, IsTextAnswer}
 use Rattle.sbl_sessions.specs.Commands.{Bad, Command, block_command, target_of, Makes, HasNoText, text_of_block}
 use Rattle.sbl_sessions.specs.EditFaults.{fault_in}
+use Rattle.sbl_sessions.specs.declared.replies.Reply.TheVariants as reply
 
 -- where memory was refused
 out_of_memory : (s t : Contents) (e : Edit) → IsOutOfMemory s e t → IsEditAnswer s e (edit_text (Some fault.OutOfMemory)) t
@@ -27,19 +28,13 @@ out_of_memory s t e (During wanted made is n few same) = (RefusedAfter n, (Some 
 pub answer_of_edit : (r : Result (Unit {0}) EditFault) (s t : Contents) (e : Edit) → Edits r s e t → IsEditAnswer s e (edit_text (fault_in r)) t
 answer_of_edit (Ok u) s t e h = (Enough, (None, h, refl))
 answer_of_edit (Err fault.OutOfMemory) s t e h = out_of_memory s t e h
-answer_of_edit (Err fault.Present) s t e h = (Enough, (Some fault.Present, h, refl))
-answer_of_edit (Err fault.Absent) s t e h = (Enough, (Some fault.Absent, h, refl))
-answer_of_edit (Err fault.EmptyWord) s t e h = (Enough, (Some fault.EmptyWord, h, refl))
-answer_of_edit (Err fault.WordTooLong) s t e h = (Enough, (Some fault.WordTooLong, h, refl))
-answer_of_edit (Err fault.Full) s t e h = (Enough, (Some fault.Full, h, refl))
-answer_of_edit (Err fault.NoRoutine) s t e h = (Enough, (Some fault.NoRoutine, h, refl))
-answer_of_edit (Err fault.NoAmong) s t e h = (Enough, (Some fault.NoAmong, h, refl))
-answer_of_edit (Err fault.AmongCount) s t e h = (Enough, (Some fault.AmongCount, h, refl))
-answer_of_edit (Err (fault.Script f)) s t e h = (Enough, (Some (fault.Script f), h, refl))
-answer_of_edit (Err fault.MeterFull) s t e h = (Enough, (Some fault.MeterFull, h, refl))
-answer_of_edit (Err fault.BadLimit) s t e h = (Enough, (Some fault.BadLimit, h, refl))
-answer_of_edit (Err fault.NoGrouping) s t e h = (Enough, (Some fault.NoGrouping, h, refl))
-answer_of_edit (Err fault.BrokenOff) s t e h = (Enough, (Some fault.BrokenOff, h, refl))
+answer_of_edit (Err f) s t e h = (Enough, (Some f, h, refl))
+
+-- a command makes an edit, and this text answers it
+pub edit_answered : (x : Command) (e : Edit) (s t : Contents) (text : Bor (List ℕ)) → Makes e ≡ x → IsEditAnswer s e text.now t → IsAnswer s x (reply.Fixed text) t
+edit_answered x e s t text is h =
+    let a : IsAnswer s (Makes e) (reply.Fixed text) t = (h.0, text.now, refl, h.1) in
+    subst (λ (y : Command). IsAnswer s y (reply.Fixed text) t) is a
 
 -- a text that replaces something, by what is replaced and its bytes
 pub replaced_text : (r : Result (Unit {0}) EditFault) (s t : Contents) (named what : Part') (text bytes answer : List ℕ) → named ≡ what → text ≡ bytes
@@ -81,25 +76,13 @@ refused_long : (r : Result (Unit {0}) EditFault) (s t : Contents) (word cut : Li
     → refusal_of_add s cut ≡ Some fault.WordTooLong → Edits r s (Add cut) t → Edits r s (Add word) t
 refused_long (Ok u) s t word cut long short h = absurd (not_accepted s t cut short h)
 refused_long (Err fault.OutOfMemory) s t word cut long short h = absurd (not_for_memory s t cut short h)
-refused_long (Err fault.Present) s t word cut long short h = verdict_long s t word cut fault.Present long short h
-refused_long (Err fault.Absent) s t word cut long short h = verdict_long s t word cut fault.Absent long short h
-refused_long (Err fault.EmptyWord) s t word cut long short h = verdict_long s t word cut fault.EmptyWord long short h
-refused_long (Err fault.WordTooLong) s t word cut long short h = verdict_long s t word cut fault.WordTooLong long short h
-refused_long (Err fault.Full) s t word cut long short h = verdict_long s t word cut fault.Full long short h
-refused_long (Err fault.NoRoutine) s t word cut long short h = verdict_long s t word cut fault.NoRoutine long short h
-refused_long (Err fault.NoAmong) s t word cut long short h = verdict_long s t word cut fault.NoAmong long short h
-refused_long (Err fault.AmongCount) s t word cut long short h = verdict_long s t word cut fault.AmongCount long short h
-refused_long (Err (fault.Script f)) s t word cut long short h = verdict_long s t word cut (fault.Script f) long short h
-refused_long (Err fault.MeterFull) s t word cut long short h = verdict_long s t word cut fault.MeterFull long short h
-refused_long (Err fault.BadLimit) s t word cut long short h = verdict_long s t word cut fault.BadLimit long short h
-refused_long (Err fault.NoGrouping) s t word cut long short h = verdict_long s t word cut fault.NoGrouping long short h
-refused_long (Err fault.BrokenOff) s t word cut long short h = verdict_long s t word cut fault.BrokenOff long short h
+refused_long (Err f) s t word cut long short h = verdict_long s t word cut f long short h
 
 all_of : (n : ℕ) (xs : List ℕ) → length xs ≤ n → take n xs ≡ xs
 all_of n xs h = grind (arith, common_steps)
 
 -- the first 256 characters of a word say what becomes of it
-pub by_first : (r : Result (Unit {0}) EditFault) (s t : Contents) (word : List ℕ) → Edits r s (Add (take 256 word)) t → Edits r s (Add word) t
+by_first : (r : Result (Unit {0}) EditFault) (s t : Contents) (word : List ℕ) → Edits r s (Add (take 256 word)) t → Edits r s (Add word) t
 by_first r s t word h = by (nat_lt 256 (length word)) refl
   where
     by : (b : Bool) → nat_lt 256 (length word) ≡ b → Edits r s (Add word) t
@@ -111,6 +94,12 @@ by_first r s t word h = by (nat_lt 256 (length word)) refl
         let short : length word ≤ 256 = grind (arith, nat_tests) in
         let whole : take 256 word ≡ word = all_of 256 word short in
         subst (λ (w : List ℕ). Edits r s (Add w) t) whole h
+
+pub add_answered : (r : Result (Unit {0}) EditFault) (s t : Contents) (word cut text : List ℕ) → cut ≡ take 256 word → Edits r s (Add cut) t → text ≡ edit_text (fault_in r)
+    → IsEditAnswer s (Add word) text t
+add_answered r s t word cut text first adds told =
+    let all : Edits r s (Add (take 256 word)) t = subst (λ (w : List ℕ). Edits r s (Add w) t) first adds in
+    subst (λ (x : List ℕ). IsEditAnswer s (Add word) x t) (sym told) (answer_of_edit r s t (Add word) (by_first r s t word all))
 
 -- ---- an edit of the script
 

@@ -42,6 +42,10 @@ looks words fit word = by (nat_lt 255 (length word)) refl
         Neither (absent words fit word long) (absent words fit (take 256 word) cut)
     by false e = let short : length word ≤ 255 = grind (arith, nat_tests) in Whole (take_all 256 word (omega (arith, short)))
 
+-- what is taken of a word, in room for 256 characters
+pub first_taken : (n : ℕ) (room word : List ℕ) → length room ≡ 256 → take n room ≡ take (length room) word → take n room ≡ take 256 word
+first_taken n room word is taken = subst (λ (m : ℕ). take n room ≡ take m word) is taken
+
 -- ---- the trace
 
 pub trace_first : (s : Setting) (words : List (List ℕ)) (word : List ℕ) → Looks words word → trace_of s words (take 256 word) ≡ trace_of s words word
@@ -94,19 +98,7 @@ removes_absent : (r : Result (Unit {0}) EditFault) (s t : Contents) (word cut : 
     → Edits r s (Remove cut) t → Edits r s (Remove word) t
 removes_absent (Ok u) s t word cut none missing h = absurd (not_removed s t cut missing h)
 removes_absent (Err fault.OutOfMemory) s t word cut none missing h = absurd (no_memory s t cut h)
-removes_absent (Err fault.Present) s t word cut none missing h = verdict_absent s t word cut fault.Present none h missing
-removes_absent (Err fault.Absent) s t word cut none missing h = verdict_absent s t word cut fault.Absent none h missing
-removes_absent (Err fault.EmptyWord) s t word cut none missing h = verdict_absent s t word cut fault.EmptyWord none h missing
-removes_absent (Err fault.WordTooLong) s t word cut none missing h = verdict_absent s t word cut fault.WordTooLong none h missing
-removes_absent (Err fault.Full) s t word cut none missing h = verdict_absent s t word cut fault.Full none h missing
-removes_absent (Err fault.NoRoutine) s t word cut none missing h = verdict_absent s t word cut fault.NoRoutine none h missing
-removes_absent (Err fault.NoAmong) s t word cut none missing h = verdict_absent s t word cut fault.NoAmong none h missing
-removes_absent (Err fault.AmongCount) s t word cut none missing h = verdict_absent s t word cut fault.AmongCount none h missing
-removes_absent (Err (fault.Script f)) s t word cut none missing h = verdict_absent s t word cut (fault.Script f) none h missing
-removes_absent (Err fault.MeterFull) s t word cut none missing h = verdict_absent s t word cut fault.MeterFull none h missing
-removes_absent (Err fault.BadLimit) s t word cut none missing h = verdict_absent s t word cut fault.BadLimit none h missing
-removes_absent (Err fault.NoGrouping) s t word cut none missing h = verdict_absent s t word cut fault.NoGrouping none h missing
-removes_absent (Err fault.BrokenOff) s t word cut none missing h = verdict_absent s t word cut fault.BrokenOff none h missing
+removes_absent (Err f) s t word cut none missing h = verdict_absent s t word cut f none h missing
 
 pub removes_first : (r : Result (Unit {0}) EditFault) (s t : Contents) (word : List ℕ) → Looks s.words word → Edits r s (Remove (take 256 word)) t → Edits r s (Remove word) t
 removes_first r s t word (Whole same) h = subst (λ (w : List ℕ). Edits r s (Remove w) t) same h

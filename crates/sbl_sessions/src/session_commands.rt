@@ -25,11 +25,11 @@ pub(crate) enum Command<'a> {
     Limit(u64),
     /// `limit` with an argument that is not a number.
     HasNoNumber,
+    Class(&'a str),
+    Trace(&'a str),
     Stems,
     Classes,
     Script,
-    Class(&'a str),
-    Trace(&'a str),
     Runs,
     Bad,
 }

@@ -4,38 +4,16 @@ ghost use Rattle.std.specs.Prelude.{◌≡◌, ◌<◌, ◌+◌, ◌^◌, map};
 ghost use Rattle.sbl_token.specs.Lexemes.{lexeme_of};
 ghost use Rattle.sbl_text.specs.Tokens.{placed_of};
 ghost use Rattle.sbl_source_map.specs.PartTokens as parts;
-ghost use Rattle.sbl_source_map.specs.SubjectTokens as subjects;
 ghost use Rattle.sbl_text_rows.specs.PlaceRows.{end_after};
 
 use sbl_source_map::{begins_item, depth_after};
-use sbl_text::{Kind, Sign, Token, Word};
+use sbl_text::{Kind, Sign, Token};
 
 /// Whether a token closes a parenthesis.
-pub(crate) fn closes(token: &Token<'_>) -> bool
+fn closes(token: &Token<'_>) -> bool
     ensures { result ≡ parts.closes (lexeme_of token.now) }
 {
     matches!(token.kind, Kind::Sign(Sign::Close))
-}
-
-/// Whether a token is the word `define`.
-pub(crate) fn is_define(token: &Token<'_>) -> bool
-    ensures { result ≡ parts.is_define (lexeme_of token.now) }
-{
-    matches!(token.kind, Kind::Word(Word::Define))
-}
-
-/// Whether a token is the word `as`.
-pub(crate) fn is_as(token: &Token<'_>) -> bool
-    ensures { result ≡ parts.is_as (lexeme_of token.now) }
-{
-    matches!(token.kind, Kind::Word(Word::As))
-}
-
-/// Whether a token is the word `among`.
-pub(crate) fn is_among(token: &Token<'_>) -> bool
-    ensures { result ≡ subjects.is_among (lexeme_of token.now) }
-{
-    matches!(token.kind, Kind::Word(Word::Among))
 }
 
 /// Whether a token begins an item, or ends the parentheses that items are in.

@@ -7,11 +7,12 @@ ghost use Rattle.csv.specs.Records.{fields_of, partial_of};
 ghost use Rattle.sbl_io.specs.Records.{record_line};
 ghost use Rattle.sbl_token.specs.Lexemes.{SaysFitting, lexeme_of};
 ghost use Rattle.sbl_text.specs.Tokens.{ArePlaced, PlacedToken, placed_of};
+ghost use Rattle.sbl_source_map.specs.PartTokens.{is_as};
 ghost use Rattle.sbl_text_rows.specs.PlaceRows as spec;
 ghost use Rattle.sbl_text_rows.specs.Rows.{line_if};
 ghost use Rattle.sbl_text_rows.specs.Views.{Measures, TakesLine, context_of};
 
-use crate::extents::{closed_end, is_as, item_end};
+use crate::extents::{closed_end, item_end};
 use crate::fields::{push_numbers, record_of};
 use crate::rulers::Ruler;
 use crate::walks::Walk;
@@ -28,6 +29,13 @@ struct Rows<'a> {
     out: Vec<u8>,
     ruler: Ruler<'a>,
     walk: Walk<'a>,
+}
+
+/// Whether a token is the word `as`.
+fn is_as(token: &Token<'_>) -> bool
+    ensures { result ≡ is_as (lexeme_of token.now) }
+{
+    matches!(token.kind, Kind::Word(Word::As))
 }
 
 /// Returns what a definition defines, given the token after its name.

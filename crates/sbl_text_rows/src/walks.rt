@@ -3,11 +3,12 @@
 ghost use Rattle.std.specs.Prelude.{◌≡◌, ◌<◌, ◌+◌, ◌^◌, OnOk};
 ghost use Rattle.sbl_token.specs.Lexemes.{lexeme_of};
 ghost use Rattle.sbl_text.specs.Tokens.{placed_of};
+ghost use Rattle.sbl_source_map.specs.PartTokens.{is_define};
+ghost use Rattle.sbl_source_map.specs.SubjectTokens.{is_among};
 ghost use Rattle.sbl_text_rows.specs.PlaceRows as spec;
 ghost use Rattle.sbl_text_rows.specs.PlaceRows.{amongs_after, brackets_after, name_after};
 ghost use Rattle.sbl_text_rows.specs.Views.{context_of};
 
-use crate::extents::{is_among, is_define};
 use sbl_text::{Kind, Sign, Token, Word};
 use std::alloc::{AllocError, Global};
 
@@ -23,6 +24,20 @@ pub(crate) struct Walk<'a> {
     follows_define: bool,
     follows_among: bool,
     is_declared: bool,
+}
+
+/// Whether a token is the word `define`.
+fn is_define(token: &Token<'_>) -> bool
+    ensures { result ≡ is_define (lexeme_of token.now) }
+{
+    matches!(token.kind, Kind::Word(Word::Define))
+}
+
+/// Whether a token is the word `among`.
+fn is_among(token: &Token<'_>) -> bool
+    ensures { result ≡ is_among (lexeme_of token.now) }
+{
+    matches!(token.kind, Kind::Word(Word::Among))
 }
 
 /// Whether declarations begin with this word.

@@ -53,19 +53,7 @@ same d e is = ap (λ (x : State). x.may_break) is
 kept_keeps : (result : Result (Unit {0}) EditFault) (refused : ScriptFault → RefusedText) (m : State) → Keeps m (kept_after result refused m)
 kept_keeps (Ok u) refused m = refl
 kept_keeps (Err (edit.Script f)) refused m = refl
-kept_keeps (Err edit.Present) refused m = refl
-kept_keeps (Err edit.Absent) refused m = refl
-kept_keeps (Err edit.EmptyWord) refused m = refl
-kept_keeps (Err edit.WordTooLong) refused m = refl
-kept_keeps (Err edit.Full) refused m = refl
-kept_keeps (Err edit.NoRoutine) refused m = refl
-kept_keeps (Err edit.NoAmong) refused m = refl
-kept_keeps (Err edit.AmongCount) refused m = refl
-kept_keeps (Err edit.OutOfMemory) refused m = refl
-kept_keeps (Err edit.MeterFull) refused m = refl
-kept_keeps (Err edit.BadLimit) refused m = refl
-kept_keeps (Err edit.NoGrouping) refused m = refl
-kept_keeps (Err edit.BrokenOff) refused m = refl
+kept_keeps (Err f) refused m = refl
 
 turn_keeps : (result : Result (Unit {0}) HistoryFault) (m : State) → Keeps m (kept_after_turn result m)
 turn_keeps (Ok u) m = refl

@@ -25,7 +25,7 @@ use Rattle.sbl_work.specs.Commands.{FaultsOf, with_file}
 use Rattle.sbl_work.specs.FaultReplies.{alone, or_alone, AreBytesFaults, ArePartFaults, AreTypedFaults, IsFaultsText, IsRefusedText}
 use Rattle.sbl_work.specs.Replies.{IsFaultsReply, TellsFaults}
 use Rattle.sbl_work.specs.ReplyViews.{IsWorkAnswer}
-use Rattle.sbl_work.proofs.ReplyFacts.{no_utf8}
+use Rattle.sbl_sessions.proofs.CommandFacts.{not_text}
 
 -- rows, or memory for them is refused
 pub rows_reply : (AreRows : List ℕ → Type 0) (s : Contents) (d : State) (rows : Result (Vec ℕ Global) AllocError) (r : Reply) → IfOk rows (λ made. AreRows made.items) → IfOk rows (λ made. IsReply r made.items)
@@ -50,7 +50,7 @@ typed_text s what text typed f faults same utf8 h =
 
 pub typed_bytes : (s : Contents) (what : Part') (typed : List ℕ) (f : ScriptFault) (faults : List PlacedFault) → ¬ (IsUtf8 typed)
     → AreFaultsOf typed s.setting.script.external faults → ArePartFaults s what typed f faults
-typed_bytes s what typed f faults not h = rw (no_utf8 typed not) h
+typed_bytes s what typed f faults not h = rw (not_text typed not) h
 
 -- the script is cut at the part, or has no such part
 pub typed_cut : (s : Contents) (what : Part') (typed rest text external block : List ℕ) (f : ScriptFault) (o : Option Excerpt) (cut : Excerpt) (head : ℕ) (all faults : List PlacedFault)

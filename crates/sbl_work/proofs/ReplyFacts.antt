@@ -4,7 +4,7 @@ use Rattle.std.proofs.lemmas.Bool.Decides.{nat_tests}
 use Rattle.std.specs.Option.{is_some}
 use Rattle.std.specs.Prelude.{IfErr, IfOk, MatchResult, Vec}
 use Rattle.std.specs.declared.alloc.Global.{Global}
-use Rattle.std.proofs.lemmas.Str.{IsUtf8-from_is_utf8, is_utf8-from_IsUtf8}
+use Rattle.std.proofs.lemmas.Str.{is_utf8-from_IsUtf8}
 use Rattle.std.specs.Str.{IsUtf8, bytes_eq, is_utf8}
 use Rattle.sbl_bench.specs.Contents.{Contents}
 use Rattle.sbl_bench.specs.Edits.{Edit, Edits, Whole}
@@ -31,6 +31,7 @@ use Rattle.sbl_history.specs.MayBreak.{EditsOrBreaksIf}
 use Rattle.sbl_work.specs.Replies.{IsSessionReply, IsWorkReply, ReplacesKept, TellsReport, not_text_text, rows_or_fault}
 use Rattle.sbl_work.specs.ReplyViews.{IsFamiliesAnswer, IsFileAnswer, IsKeptPart, IsPartResult, IsSessionAnswer, IsTextResult, IsWorkAnswer, NamesText}
 use Rattle.sbl_history.proofs.Refusing.{nothing_tried}
+use Rattle.sbl_sessions.proofs.CommandFacts.{not_text}
 
 -- ---- any command
 
@@ -56,13 +57,6 @@ session_answer s t d e k r (text, shown, is) noted = (text, shown, (is, noted))
 pub reply_is_told : (s : Contents) (d : State) (report : List ℕ) (r : Reply) → IsReply r report ⊎ IsReply r (edit_text (Some fault.OutOfMemory)) → (text : List ℕ) × IsReply r text × TellsReport report s d text s d
 reply_is_told s d report r (inl shown) = (report, shown, inl (refl, refl, refl))
 reply_is_told s d report r (inr shown) = (edit_text (Some fault.OutOfMemory), shown, inr (refl, refl, refl))
-
-pub no_utf8 : (bytes : List ℕ) → ¬ (IsUtf8 bytes) → is_utf8 bytes ≡ false
-no_utf8 bytes not = by (is_utf8 bytes) refl
-  where
-    by : (t : Bool) → is_utf8 bytes ≡ t → is_utf8 bytes ≡ false
-    by true e = absurd (not (IsUtf8-from_is_utf8 bytes e))
-    by false e = e
 
 -- an allocation for the text to be saved fails
 pub save_memory : (s : Contents) (d : State) (line : List ℕ) (r : Reply) → alone_command (Some []) line ≡ command.Saved → IsReply r (edit_text (Some fault.OutOfMemory)) → IsFileAnswer s d line r s d
@@ -279,7 +273,7 @@ whole_noted s t d m e bytes result noted x so same kept is =
 -- ---- the bytes of a part
 
 pub part_bytes : (s : Contents) (d : State) (what : Part') (bytes : List ℕ) → ¬ (IsUtf8 bytes) → IsPartResult (Err (fault.Script script.NotUtf8)) what bytes s d s d
-part_bytes s d what bytes not = rw (no_utf8 bytes not) (refl, refl, refl)
+part_bytes s d what bytes not = rw (not_text bytes not) (refl, refl, refl)
 
 pub part_utf8 : (s t : Contents) (d e : State) (what : Part') (text bytes : List ℕ) (result : Result (Unit {0}) EditFault) → text ≡ bytes → IsUtf8 bytes
     → IsTextResult result what text s d t e → IsPartResult result what bytes s d t e
@@ -291,7 +285,7 @@ pub families_utf8 : (s : Contents) (d : State) (text bytes : List ℕ) (r : Repl
 families_utf8 s d text bytes r same utf8 answer = rw (is_utf8-from_IsUtf8 bytes utf8) (subst (λ (b : List ℕ). IsFamiliesAnswer s d b r) same answer)
 
 pub families_bytes : (s : Contents) (d : State) (bytes : List ℕ) → ¬ (IsUtf8 bytes) → (text : List ℕ) × (not_text_text ≡ text) × IsWorkReply s d (command.Families bytes) text s d
-families_bytes s d bytes not = rw (no_utf8 bytes not) (not_text_text, refl, inl (refl, refl, refl))
+families_bytes s d bytes not = rw (not_text bytes not) (not_text_text, refl, inl (refl, refl, refl))
 
 pub families_held : (s : Contents) (d : State) (bytes : List ℕ) (lines : List (List ℕ)) (r : Reply) → bytes ≡ made_text lines → length (made_text lines) ≤ max_script
     → IsWorkAnswer s d (command.Families bytes) r s d → IsWorkAnswer s d (families_command lines) r s d

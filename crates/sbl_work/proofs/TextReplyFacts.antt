@@ -18,7 +18,7 @@ use Rattle.sbl_text_rows.specs.TokenRows.{IsTokensText}
 use Rattle.sbl_work.specs.Commands.{TokensOf, with_file}
 use Rattle.sbl_work.specs.Replies.{IsFileTokensReply, IsRowsReply, TellsRows, not_text_text}
 use Rattle.sbl_work.specs.ReplyViews.{IsRowsAnswer, IsWorkAnswer}
-use Rattle.sbl_work.proofs.ReplyFacts.{no_utf8}
+use Rattle.sbl_sessions.proofs.CommandFacts.{not_text}
 
 -- the bytes are a text
 pub rows_utf8 : (HasRows : List ℕ → List ℕ → Type 0) (s : Contents) (d : State) (text bytes : List ℕ) (rows : Result (Vec ℕ Global) AllocError) (r : Reply) → text ≡ bytes → IsUtf8 bytes
@@ -31,7 +31,7 @@ rows_utf8 HasRows s d text bytes (Err e) r same utf8 has shown refused =
 -- they are none
 pub rows_bytes : (HasRows : List ℕ → List ℕ → Type 0) (s : Contents) (d : State) (bytes : List ℕ) → ¬ (IsUtf8 bytes)
     → (text : List ℕ) × (not_text_text ≡ text) × IsRowsReply HasRows bytes s d text s d
-rows_bytes HasRows s d bytes not = rw (no_utf8 bytes not) (not_text_text, refl, inl (refl, refl, refl))
+rows_bytes HasRows s d bytes not = rw (not_text bytes not) (not_text_text, refl, inl (refl, refl, refl))
 
 -- an allocation fails
 pub rows_memory : (HasRows : List ℕ → List ℕ → Type 0) (s : Contents) (d : State) (bytes : List ℕ) (r : Reply) → IsReply r (edit_text (Some edit.OutOfMemory)) → IsRowsAnswer HasRows bytes s d r

@@ -22,7 +22,7 @@ const NAMED_TWICE_BY_CHECK: &str =
 
 /// The line if `check` has one file or two.
 const THREE_FILES: &str =
-    "snowbench: check takes three files, ./snowbench check SCRIPT WORDS STEMS, or all from standard input, ./snowbench check < INPUT";
+    "snowbench: check takes three files, SCRIPT, WORDS and STEMS, or all from standard input";
 
 /// Runs the commands of a file over a script and words in files, and returns the exit status. Without a file of commands writes the rows.
 pub(crate) fn run_session(

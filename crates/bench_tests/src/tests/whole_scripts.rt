@@ -81,10 +81,7 @@ fn a_whole_script_runs_what_met_the_items_that_differ(rt: HostRuntime) -> Result
 #[test]
 fn a_script_that_is_too_long_changes_nothing(rt: HostRuntime) -> Result<(), Fail> {
     let alloc = rt.alloc();
-    let mut text = String::new(alloc);
-    for _ in 0..1_048_577 {
-        text.push(' ')?;
-    }
+    let mut text = " ".repeat(alloc, 1_048_577)?;
     text.push_str("|||48 ScriptTooLong|xyb xb;ab a;xb b;q ;ad ad;|5")?;
     tries(&rt, alloc, case_of(alloc, text.as_str())?.as_str())?;
     Ok(())

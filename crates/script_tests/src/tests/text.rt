@@ -232,11 +232,8 @@ fn a_code_after_64_others_is_read(rt: HostRuntime) -> Result<(), Fail> {
 #[test]
 fn codes_of_a_call_and_of_a_literal_are_the_same(rt: HostRuntime) -> Result<(), Fail> {
     let alloc = rt.alloc();
-    let mut text = String::new(alloc);
-    for _ in 0..65 {
-        text.push_str("E4\t")?;
-    }
-    let value = read_codes(alloc, true, &letters(alloc, &text)?)?;
+    let text = "E4\t".repeat(alloc, 65)?;
+    let value = read_codes(alloc, true, &letters(alloc, text.as_str())?)?;
     let read = text_of(alloc, &value)?;
     let script = format!(in alloc; "stringescapes {{}} stringdef m hex '{text}' '{{m}}'")?;
     let inserted = answer_text(alloc, &script, Asked::Value)?;

@@ -1,53 +1,38 @@
-use Rattle.std.proofs.Common.{rules, ◌≡◌, true, false}
-use Rattle.std.specs.Prelude.{is_err}
+use Rattle.std.proofs.Common.{rules}
 use Rattle.sbl_saving.proofs.Steps.{keeps_part, keeps_text, on_err, on_ok, steps_to_end, steps_to_name}
 use Rattle.sbl_saving.proofs.replace.replace_file.Goals as goal
 
 pub returns-then-is_err : goal.returns-then-is_err
 returns-then-is_err g c =
-    let bad : is_err c.create.result ≡ true = search rules in
-    on_err c.create.result _ bad c.create.ensures.not_made
+    on_err c.create.result _ (search rules) c.create.ensures.not_made
 
 pub returns-then-is_err-2 : goal.returns-then-is_err-2
 returns-then-is_err-2 g c =
-    let good1 : is_err c.create.result ≡ false = search rules in
-    let bad : is_err c.fill.result ≡ true = search rules in
-    let made = on_ok c.create.result _ good1 c.create.ensures.made in
-    let part = on_err c.fill.result _ bad c.fill.ensures.part in
+    let made = on_ok c.create.result _ (search rules) c.create.ensures.made in
+    let part = on_err c.fill.result _ (search rules) c.fill.ensures.part in
     keeps_part c.remove.result (g.D.Folder.view c.args.folder.now) (g.D.Folder.view c.create.new.self) (g.D.Folder.view c.fill.new.folder) (g.D.Folder.view c.remove.new.self)
     made part c.remove.ensures.removed c.remove.ensures.not_removed
 
 pub returns-then-is_err-3 : goal.returns-then-is_err-3
 returns-then-is_err-3 g c =
-    let good1 : is_err c.create.result ≡ false = search rules in
-    let good2 : is_err c.fill.result ≡ false = search rules in
-    let bad : is_err c.rename.result ≡ true = search rules in
-    let made = on_ok c.create.result _ good1 c.create.ensures.made in
-    let text = on_ok c.fill.result _ good2 c.fill.ensures.filled in
-    let kept = on_err c.rename.result _ bad c.rename.ensures.not_renamed in
+    let made = on_ok c.create.result _ (search rules) c.create.ensures.made in
+    let text = on_ok c.fill.result _ (search rules) c.fill.ensures.filled in
+    let kept = on_err c.rename.result _ (search rules) c.rename.ensures.not_renamed in
     keeps_text c.args.text.now c.remove-then-is_err-3.result (g.D.Folder.view c.args.folder.now) (g.D.Folder.view c.create.new.self) (g.D.Folder.view c.fill.new.folder) (g.D.Folder.view c.rename.new.self) (g.D.Folder.view c.remove-then-is_err-3.new.self)
     made text kept c.remove-then-is_err-3.ensures.removed c.remove-then-is_err-3.ensures.not_removed
 
 pub returns-then-is_err-4 : goal.returns-then-is_err-4
 returns-then-is_err-4 g c =
-    let good1 : is_err c.create.result ≡ false = search rules in
-    let good2 : is_err c.fill.result ≡ false = search rules in
-    let good3 : is_err c.rename.result ≡ false = search rules in
-    let bad : is_err c.flush_names.result ≡ true = search rules in
-    let made = on_ok c.create.result _ good1 c.create.ensures.made in
-    let text = on_ok c.fill.result _ good2 c.fill.ensures.filled in
-    let named = on_ok c.rename.result _ good3 c.rename.ensures.renamed in
-    let last = on_err c.flush_names.result _ bad c.flush_names.ensures.not_settled in
+    let made = on_ok c.create.result _ (search rules) c.create.ensures.made in
+    let text = on_ok c.fill.result _ (search rules) c.fill.ensures.filled in
+    let named = on_ok c.rename.result _ (search rules) c.rename.ensures.renamed in
+    let last = on_err c.flush_names.result _ (search rules) c.flush_names.ensures.not_settled in
     steps_to_name c.args.text.now (g.D.Folder.view c.args.folder.now) (g.D.Folder.view c.create.new.self) (g.D.Folder.view c.fill.new.folder) (g.D.Folder.view c.rename.new.self) (g.D.Folder.view c.flush_names.new.self) made text named last
 
 pub returns : goal.returns
 returns g c =
-    let good1 : is_err c.create.result ≡ false = search rules in
-    let good2 : is_err c.fill.result ≡ false = search rules in
-    let good3 : is_err c.rename.result ≡ false = search rules in
-    let good4 : is_err c.flush_names.result ≡ false = search rules in
-    let made = on_ok c.create.result _ good1 c.create.ensures.made in
-    let text = on_ok c.fill.result _ good2 c.fill.ensures.filled in
-    let named = on_ok c.rename.result _ good3 c.rename.ensures.renamed in
-    let last = on_ok c.flush_names.result _ good4 c.flush_names.ensures.settled in
+    let made = on_ok c.create.result _ (search rules) c.create.ensures.made in
+    let text = on_ok c.fill.result _ (search rules) c.fill.ensures.filled in
+    let named = on_ok c.rename.result _ (search rules) c.rename.ensures.renamed in
+    let last = on_ok c.flush_names.result _ (search rules) c.flush_names.ensures.settled in
     steps_to_end c.args.text.now (g.D.Folder.view c.args.folder.now) (g.D.Folder.view c.create.new.self) (g.D.Folder.view c.fill.new.folder) (g.D.Folder.view c.rename.new.self) (g.D.Folder.view c.flush_names.new.self) made text named last

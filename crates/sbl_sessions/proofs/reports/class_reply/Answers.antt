@@ -1,4 +1,4 @@
-use Rattle.std.proofs.Common.{◌≡◌, ◌∙◌, List, ℕ, Option, Some, None, IfOk, length, refl, rules, subst, sym, take}
+use Rattle.std.proofs.Common.{◌≡◌, ◌∙◌, List, ℕ, Option, Some, None, IfOk, refl, rules, subst, sym, take}
 use Rattle.std.specs.List.{find}
 use Rattle.std.specs.Str.{bytes_eq, chars}
 use Rattle.sbl_bench.specs.Contents.{rows_now}
@@ -8,7 +8,7 @@ use Rattle.sbl_sessions.specs.Answers.{Enough, IsReport, Memory}
 use Rattle.sbl_sessions.specs.CommandViews.{IsReply}
 use Rattle.sbl_reports.specs.Listings.{class_text}
 use Rattle.sbl_reports.specs.inside.ListingParts.{class_or_row_text}
-use Rattle.sbl_sessions.proofs.FirstFacts.{looks, row_first, whole_of}
+use Rattle.sbl_sessions.proofs.FirstFacts.{first_taken, looks, row_first, whole_of}
 use Rattle.sbl_sessions.proofs.ReportFacts.{class_text_is, report_answer}
 use Rattle.sbl_sessions.proofs.reports.class_reply.Goals as goal
 
@@ -17,9 +17,7 @@ returns-in-Some c =
     let s = contents_of c.args.bench.now in
     let word = chars c.args.word.now in
     let row : Row = view_row c.in-Some.row in
-    let room : length c.first_characters-count.new.room ≡ 256 = search rules in
-    let first : take c.first_characters-count.result c.first_characters-count.new.room ≡ take 256 word =
-    subst (λ (n : ℕ). take c.first_characters-count.result c.first_characters-count.new.room ≡ take n word) room c.first_characters-count.ensures.first in
+    let first = first_taken c.first_characters-count.result c.first_characters-count.new.room word (search rules) c.first_characters-count.ensures.first in
     let cut : Some row ≡ find (λ (r : Row). bytes_eq (take 256 word) r.word) (rows_now s) =
     subst (λ (w : List ℕ). Some row ≡ find (λ (r : Row). bytes_eq w r.word) (rows_now s)) first c.in-Some.ensures in
     let seen = looks s.words c.words_fit.ensures word in
@@ -35,9 +33,7 @@ pub returns-in-None : goal.returns-in-None
 returns-in-None c =
     let s = contents_of c.args.bench.now in
     let word = chars c.args.word.now in
-    let room : length c.first_characters-count.new.room ≡ 256 = search rules in
-    let first : take c.first_characters-count.result c.first_characters-count.new.room ≡ take 256 word =
-    subst (λ (n : ℕ). take c.first_characters-count.result c.first_characters-count.new.room ≡ take n word) room c.first_characters-count.ensures.first in
+    let first = first_taken c.first_characters-count.result c.first_characters-count.new.room word (search rules) c.first_characters-count.ensures.first in
     let cut : None ≡ find (λ (r : Row). bytes_eq (take 256 word) r.word) (rows_now s) =
     subst (λ (w : List ℕ). None ≡ find (λ (r : Row). bytes_eq w r.word) (rows_now s)) first c.in-None.ensures in
     let here : None ≡ find (λ (r : Row). bytes_eq word r.word) (rows_now s) = cut ∙ row_first s.setting s.words word (looks s.words c.words_fit.ensures word) in

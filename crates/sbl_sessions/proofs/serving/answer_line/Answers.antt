@@ -6,29 +6,21 @@ use Rattle.sbl_bench.specs.declared.fault.EditFault.TheVariants as fault
 use Rattle.sbl_print.specs.Canonical.{canonical}
 use Rattle.sbl_sessions.specs.Answers.{Enough, with_line_feed}
 use Rattle.sbl_sessions.specs.CommandViews.{IsAnswer, IsEditAnswer}
-use Rattle.sbl_sessions.specs.Commands.{Command, Makes}
+use Rattle.sbl_sessions.specs.Commands.{Command, Makes, line_command}
 use Rattle.sbl_sessions.specs.inside.SessionParts.{Class, Classes, Runs, Script, Stems}
 use Rattle.sbl_reports.specs.Listings.{classes_text, stems_text}
 use Rattle.sbl_sessions.specs.declared.replies.Reply.TheVariants as reply
-use Rattle.sbl_sessions.proofs.EditFacts.{answer_of_edit}
+use Rattle.sbl_sessions.proofs.EditFacts.{answer_of_edit, edit_answered}
 use Rattle.sbl_sessions.proofs.ReportFacts.{report_answer}
 use Rattle.sbl_sessions.proofs.serving.answer_line.Goals as goal
 
 pub returns-in-Add : goal.returns-in-Add
 returns-in-Add c =
-    let s = contents_of c.args.bench.now in
-    let t = contents_of c.add_word.new.bench in
-    let h = c.add_word.ensures in
-    let a : IsAnswer s (Makes (edits.Add (chars c.in-Add.word.now))) (reply.Fixed c.add_word.result) t = (h.0, c.add_word.result.now, refl, h.1) in
-    subst (λ (x : Command). IsAnswer s x (reply.Fixed c.add_word.result) t) c.in-Add.ensures a
+    edit_answered (line_command c.args.line.now) (edits.Add (chars c.in-Add.word.now)) (contents_of c.args.bench.now) (contents_of c.add_word.new.bench) c.add_word.result c.in-Add.ensures c.add_word.ensures
 
 pub returns-in-Remove : goal.returns-in-Remove
 returns-in-Remove c =
-    let s = contents_of c.args.bench.now in
-    let t = contents_of c.remove_word.new.bench in
-    let h = c.remove_word.ensures in
-    let a : IsAnswer s (Makes (edits.Remove (chars c.in-Remove.word.now))) (reply.Fixed c.remove_word.result) t = (h.0, c.remove_word.result.now, refl, h.1) in
-    subst (λ (x : Command). IsAnswer s x (reply.Fixed c.remove_word.result) t) c.in-Remove.ensures a
+    edit_answered (line_command c.args.line.now) (edits.Remove (chars c.in-Remove.word.now)) (contents_of c.args.bench.now) (contents_of c.remove_word.new.bench) c.remove_word.result c.in-Remove.ensures c.remove_word.ensures
 
 pub returns-in-Limit : goal.returns-in-Limit
 returns-in-Limit c =
@@ -36,8 +28,7 @@ returns-in-Limit c =
     let t = contents_of c.set_limit.new.self in
     let h : IsEditAnswer s (edits.Limit c.in-Limit.number) c.edit_text.result.now t =
     subst (λ (text : List ℕ). IsEditAnswer s (edits.Limit c.in-Limit.number) text t) (sym c.edit_text.ensures) (answer_of_edit c.set_limit.result s t (edits.Limit c.in-Limit.number) c.set_limit.ensures.edits) in
-    let a : IsAnswer s (Makes (edits.Limit c.in-Limit.number)) (reply.Fixed c.edit_text.result) t = (h.0, c.edit_text.result.now, refl, h.1) in
-    subst (λ (x : Command). IsAnswer s x (reply.Fixed c.edit_text.result) t) c.in-Limit.ensures a
+    edit_answered (line_command c.args.line.now) (edits.Limit c.in-Limit.number) s t c.edit_text.result c.in-Limit.ensures h
 
 pub returns-in-Stems : goal.returns-in-Stems
 returns-in-Stems c =

@@ -14,54 +14,34 @@ loop-lexer-init c = (
 
 pub push_after-requires : goal.push_after-requires
 push_after-requires c =
-    let text = chars c.args.text.now in
-    let r = c.loop-lexer.lexer in
-    let t = c.next_token.new.lexer in
-    let token = c.in-Some.token in
-    let taken = next_taken r t c.in_ok-token.field-0 token c.in-Some.is c.in_ok-token.ensures.next in
-    token_ends text r t token c.loop-lexer.invariant.0 taken
+    token_ends (chars c.args.text.now) c.loop-lexer.lexer c.next_token.new.lexer c.in-Some.token c.loop-lexer.invariant.0
+    (next_taken c.loop-lexer.lexer c.next_token.new.lexer c.in_ok-token.field-0 c.in-Some.token c.in-Some.is c.in_ok-token.ensures.next)
 
 pub loop-lexer-smaller-in_ok-push_after : goal.loop-lexer-smaller-in_ok-push_after
 loop-lexer-smaller-in_ok-push_after c =
-    let r = c.loop-lexer.lexer in
-    let t = c.next_token.new.lexer in
-    let token = c.in-Some.token in
-    let taken = next_taken r t c.in_ok-token.field-0 token c.in-Some.is c.in_ok-token.ensures.next in
-    shorter r t token taken
+    shorter c.loop-lexer.lexer c.next_token.new.lexer c.in-Some.token
+    (next_taken c.loop-lexer.lexer c.next_token.new.lexer c.in_ok-token.field-0 c.in-Some.token c.in-Some.is c.in_ok-token.ensures.next)
 
 pub loop-lexer-preserved-in_ok-push_after : goal.loop-lexer-preserved-in_ok-push_after
-loop-lexer-preserved-in_ok-push_after c =
-    let text = chars c.args.text.now in
-    let r = c.loop-lexer.lexer in
-    let t = c.next_token.new.lexer in
-    let token = c.in-Some.token in
-    let taken = next_taken r t c.in_ok-token.field-0 token c.in-Some.is c.in_ok-token.ensures.next in (
-      c.in_ok-token.ensures.same_text ∙ c.loop-lexer.invariant.0,
-      taken.1,
-      next_lines text r t token c.loop-lexer.out.items c.push_token.new.out.items c.push_after.new.out.items c.loop-lexer.invariant.0 c.loop-lexer.invariant.2 taken
-          c.in_ok-push_token.ensures (λ s x rest gs at is end gaps ends. c.in_ok-push_after.ensures s x rest gs at is end gaps ends),
-    )
+loop-lexer-preserved-in_ok-push_after c = (
+  c.in_ok-token.ensures.same_text ∙ c.loop-lexer.invariant.0,
+  (next_taken c.loop-lexer.lexer c.next_token.new.lexer c.in_ok-token.field-0 c.in-Some.token c.in-Some.is c.in_ok-token.ensures.next).1,
+  next_lines (chars c.args.text.now) c.loop-lexer.lexer c.next_token.new.lexer c.in-Some.token c.loop-lexer.out.items c.push_token.new.out.items c.push_after.new.out.items c.loop-lexer.invariant.0 c.loop-lexer.invariant.2
+      (next_taken c.loop-lexer.lexer c.next_token.new.lexer c.in_ok-token.field-0 c.in-Some.token c.in-Some.is c.in_ok-token.ensures.next) c.in_ok-push_token.ensures (λ s x rest gs at is end gaps ends. c.in_ok-push_after.ensures s x rest gs at is end gaps ends),
+)
 
 pub loop-lexer-smaller : goal.loop-lexer-smaller
 loop-lexer-smaller c =
-    let r = c.loop-lexer.lexer in
-    let t = c.next_token.new.lexer in
-    let token = c.in-Some.token in
-    let taken = next_taken r t c.in_ok-token.field-0 token c.in-Some.is c.in_ok-token.ensures.next in
-    shorter r t token taken
+    shorter c.loop-lexer.lexer c.next_token.new.lexer c.in-Some.token
+    (next_taken c.loop-lexer.lexer c.next_token.new.lexer c.in_ok-token.field-0 c.in-Some.token c.in-Some.is c.in_ok-token.ensures.next)
 
 pub loop-lexer-preserved : goal.loop-lexer-preserved
-loop-lexer-preserved c =
-    let text = chars c.args.text.now in
-    let r = c.loop-lexer.lexer in
-    let t = c.next_token.new.lexer in
-    let token = c.in-Some.token in
-    let taken = next_taken r t c.in_ok-token.field-0 token c.in-Some.is c.in_ok-token.ensures.next in (
-      c.in_ok-token.ensures.same_text ∙ c.loop-lexer.invariant.0,
-      taken.1,
-      next_lines text r t token c.loop-lexer.out.items c.push_token.new.out.items c.push_after.new.out.items c.loop-lexer.invariant.0 c.loop-lexer.invariant.2 taken
-          c.in_ok-push_token.ensures (λ s x rest gs at is end gaps ends. c.in_ok-push_after.ensures s x rest gs at is end gaps ends),
-    )
+loop-lexer-preserved c = (
+  c.in_ok-token.ensures.same_text ∙ c.loop-lexer.invariant.0,
+  (next_taken c.loop-lexer.lexer c.next_token.new.lexer c.in_ok-token.field-0 c.in-Some.token c.in-Some.is c.in_ok-token.ensures.next).1,
+  next_lines (chars c.args.text.now) c.loop-lexer.lexer c.next_token.new.lexer c.in-Some.token c.loop-lexer.out.items c.push_token.new.out.items c.push_after.new.out.items c.loop-lexer.invariant.0 c.loop-lexer.invariant.2
+      (next_taken c.loop-lexer.lexer c.next_token.new.lexer c.in_ok-token.field-0 c.in-Some.token c.in-Some.is c.in_ok-token.ensures.next) c.in_ok-push_token.ensures (λ s x rest gs at is end gaps ends. c.in_ok-push_after.ensures s x rest gs at is end gaps ends),
+)
 
 pub returns : goal.returns
 returns c =

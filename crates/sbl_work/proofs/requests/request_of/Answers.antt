@@ -4,7 +4,7 @@ use Rattle.std.proofs.lemmas.Str.{is_utf8-from_IsUtf8}
 use Rattle.sbl_work.specs.Commands.{alone_command, is_comment, utf8_command}
 use Rattle.sbl_work.specs.ReplyViews.{view_request}
 use Rattle.sbl_work.proofs.LineFacts.{is_no_text, is_nothing, is_text}
-use Rattle.sbl_work.proofs.ReplyFacts.{no_utf8}
+use Rattle.sbl_sessions.proofs.CommandFacts.{not_text}
 use Rattle.sbl_work.proofs.requests.request_of.Goals as goal
 
 pub returns-then-is_comment : goal.returns-then-is_comment
@@ -23,5 +23,5 @@ returns-in-Ok c = λ file.
 pub returns-in-Err : goal.returns-in-Err
 returns-in-Err c = λ file.
     let other : is_comment c.args.line.now ≡ false = search rules in
-    let bytes : is_utf8 c.args.line.now ≡ false = no_utf8 c.args.line.now c.in-Err.ensures.cases.0 in
+    let bytes : is_utf8 c.args.line.now ≡ false = not_text c.args.line.now c.in-Err.ensures.cases.0 in
     is_no_text file c.args.line.now other bytes

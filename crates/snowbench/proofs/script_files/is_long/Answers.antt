@@ -1,16 +1,10 @@
-use Rattle.std.proofs.Common.{◌≡◌, ◌∙◌, ap, refl, subst, sym, List, ℕ, Bool, true, false, length}
-use Rattle.std.specs.Str.{chars, is_utf8, IsUtf8}
+use Rattle.std.proofs.Common.{◌≡◌, ◌∙◌, ap, refl, subst, sym, List, ℕ, length}
+use Rattle.std.specs.Str.{chars, IsUtf8}
 use Rattle.std.proofs.lemmas.Iterator.{YieldsList-from_chars}
 use Rattle.std.proofs.lemmas.Iterator.Consumers.{count_from_yields_List}
-use Rattle.std.proofs.lemmas.Str.{IsUtf8-from_is_utf8, is_utf8-from_IsUtf8}
+use Rattle.std.proofs.lemmas.Str.{is_utf8-from_IsUtf8}
+use Rattle.sbl_sessions.proofs.CommandFacts.{not_text}
 use Rattle.snowbench.proofs.script_files.is_long.Goals as goal
-
-of_bytes : (line : List ℕ) → ¬ (IsUtf8 line) → is_utf8 line ≡ false
-of_bytes line none = by (is_utf8 line) refl
-  where
-    by : (t : Bool) → is_utf8 line ≡ t → is_utf8 line ≡ false
-    by true e = absurd (none (IsUtf8-from_is_utf8 line e))
-    by false e = e
 
 pub returns-in-Ok : goal.returns-in-Ok
 returns-in-Ok c =
@@ -20,4 +14,4 @@ returns-in-Ok c =
     rw (same, is_utf8-from_IsUtf8 c.args.line.now c.in-Ok.ensures.cases.1) refl
 
 pub returns-in-Err : goal.returns-in-Err
-returns-in-Err c = rw (of_bytes c.args.line.now c.in-Err.ensures.cases.0) refl
+returns-in-Err c = rw (not_text c.args.line.now c.in-Err.ensures.cases.0) refl
