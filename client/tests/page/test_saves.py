@@ -10,8 +10,8 @@ from voltizug.page.live import Live, Refused
 from voltizug.program import BROKEN_OFF, DONE, Reply
 
 from ..kit import write
-from .browser import CHROMIUM, Browser, Tab
-from .kit import OTHER, SCRIPT, Page, settle
+from .browser import Tab
+from .kit import OTHER, SCRIPT, BrowserPage, Page, settle
 
 TYPED, THEIRS, FAULTY = SCRIPT + "// mine\n", "// theirs\n" + SCRIPT, SCRIPT.replace("do r", "do rr")
 
@@ -182,28 +182,7 @@ class Merged(unittest.TestCase):
                 self.assertEqual((found, places), ("\n".join(sides[0] if sides[1] == base else sides[1]), 0))
 
 
-@unittest.skipUnless(CHROMIUM, "chromium is not installed")
-class SavesInBrowser(Page):
-    @classmethod
-    def setUpClass(cls) -> None:
-        cls.browser = Browser()
-
-    @classmethod
-    def tearDownClass(cls) -> None:
-        cls.browser.close()
-
-    def open(self, script: str = SCRIPT) -> Tab:
-        self.live = self.page(script)
-        self.watch(self.live)
-        self.server = self.serve(self.live)
-        return self.tab()
-
-    def tab(self) -> Tab:
-        tab = self.browser.open(self.server.address())
-        self.addCleanup(self.browser.ask, "Target.closeTarget", targetId=tab.target)
-        tab.wait("typeof S !== 'undefined' && S.words.length && S.st.counts !== undefined && S.st.warnings !== undefined")
-        return tab
-
+class SavesInBrowser(BrowserPage):
     def type(self, tab: Tab, text: str = "// mine\n") -> None:
         tab.run("S.editing || edit(true)")
         tab.run("$('editor').setSelectionRange(%d, %d)" % (len(SCRIPT), len(SCRIPT)))
@@ -221,7 +200,7 @@ class SavesInBrowser(Page):
 
     def test_a_typed_text(self):
         for theirs in (THEIRS, SCRIPT.replace("'ed'", "'ked'")):
-            tab = self.open()
+            tab = self.show()
             self.type(tab)
             self.assertIn("typed, not tried; the results are of the file", self.texts(tab)[0])
             self.save_outside(theirs)
@@ -241,7 +220,7 @@ class SavesInBrowser(Page):
 
     def test_a_trial_in_the_editor(self):
         """It stays there as the file replaces it, and nothing says that undo brings it back."""
-        tab = self.open()
+        tab = self.show()
         self.type(tab)
         tab.press("Enter", modifiers=2)
         tab.wait("!S.dirty && S.st.isTrial")
@@ -257,7 +236,7 @@ class SavesInBrowser(Page):
     def test_a_faulty_trial_in_the_editor(self):
         """It is in no step of undo, and stays in the editor whatever replaces it."""
         for replace, name in ((lambda tab: self.save_outside(THEIRS), "outside"), (lambda tab: tab.run("post('undo', { count: 1 })"), "undo")):
-            tab = self.open()
+            tab = self.show()
             tab.run("post('trial', { text: %r })" % OTHER)
             tab.wait("S.st.isTrial && S.st.history.done.length === 1")
             self.type(tab, "// mine\n !")
@@ -270,7 +249,7 @@ class SavesInBrowser(Page):
             self.assertEqual((tab.run("$('editor').value"), tab.run("!$('outside').hidden")), (text, name == "outside"))
 
     def test_a_trial_outside_the_editor(self):
-        tab = self.open()
+        tab = self.show()
         tab.run("post('trial', { text: %r })" % TYPED)
         tab.wait("S.st.isTrial")
         self.save_outside(THEIRS)
@@ -283,7 +262,7 @@ class SavesInBrowser(Page):
 
     def test_a_long_script(self):
         """Its changes are taken in at once."""
-        tab = self.open("// %s\n" % ("x" * 60) * 3000 + SCRIPT)
+        tab = self.show("// %s\n" % ("x" * 60) * 3000 + SCRIPT)
         tab.run("edit(true), $('editor').value += '// mine\\n', typed()")
         self.save_outside("// theirs\n" + self.file())
         tab.wait("!$('outside').hidden")
@@ -292,7 +271,7 @@ class SavesInBrowser(Page):
 
     def test_two_tabs(self):
         """What another page saves is outside, too."""
-        first = self.open()
+        first = self.show()
         second = self.tab()
         self.type(first)
         self.type(second, "// second\n")
@@ -303,7 +282,7 @@ class SavesInBrowser(Page):
         self.assertEqual((self.file(), self.texts(second)[1]), (SCRIPT + "// second\n", ""))
 
     def test_saves_one_after_another(self):
-        tab = self.open()
+        tab = self.show()
         for i in range(5):
             self.type(tab, "// %d\n" % i)
             tab.press("s", modifiers=2)
