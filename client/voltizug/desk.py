@@ -107,7 +107,7 @@ class Desk:
             say("A block was open when the terminal was closed (%s, %s): the up arrow brings it back." % block)
         for left in [left for left in all_left if left.path or left.words][-1:]:
             names = left.edits + [counted(len(left.words), "added word")] * bool(left.words)
-            edits = "Edits that you typed before were left behind when the terminal was closed (%s)" % in_words(names, "and", 5)
+            edits = "Edits that you made before were in no file when work or the page ended (%s)" % in_words(names, "and", 5)
             older = " Older ones are there, too: rescue brings them back when it is typed again." if len(bench.kept.left()) > 1 else ""
             say(edits + ": rescue brings them back, rescue drop forgets them." + older)
         if not figures["words"] and not bench.words:

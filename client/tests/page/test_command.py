@@ -56,7 +56,7 @@ class Commands(Case):
         said = page.stderr.read().decode().splitlines()[-1]
         self.assertEqual(said, "snowbench: what you tried or added is in no file, and is kept. Start ./snowbench work my.sbl 'my words', and type rescue: it is there again.")
         terminal = self.terminal(room, "my.sbl", "my words")
-        terminal.got()
+        self.assertIn("in no file when work or the page ended (a part of the script and 1 added word): rescue brings them back", " ".join(terminal.got().split()))
         terminal.enter("rescue")
         self.assertIn("'ing'", terminal.enter("show r"))
         self.assertIn("walker", terminal.enter("find walker"))
