@@ -1,7 +1,9 @@
 """What the page shows: edits, files, names of edits, words, and that a state made of news is the state of a fresh page."""
 import os
 import random
+import threading
 import time
+from unittest import mock
 
 from voltizug.kept import read_file
 from voltizug.page import ink
@@ -190,6 +192,15 @@ class Edits(Page):
             until(lambda: live.part("busy") is None, 120)
             self.assertIn("broken off", live.part("notice"))
         self.assertEqual(live.word("walks")["outcome"][1:], "walk" if live.part("text") == SCRIPT else live.word("walks")["outcome"][1:])
+
+    def test_what_is_broken_off_after_an_edit(self):
+        """The edit was accepted, and stays."""
+        with mock.patch.dict(os.environ, SLOW="stems:1"):
+            live = self.page(program=FAKE)
+            process, live.bench.on_accepted = live.bench.program.process, lambda: (threading.Timer(0.3, live.bench.program.break_off).start(), live.show_outcomes())
+            live.take_trial(OTHER)
+        self.assertEqual((live.part("text"), live.part("notice"), live.part("isTrial")), (OTHER, "", True))
+        self.assertEqual((live.part("history")["done"], live.bench.program.process), (["trial"], process))
 
     def test_saves_in_a_row(self):
         live = self.page()

@@ -108,8 +108,9 @@ class Live:
     # Outcomes
 
     def show_outcomes(self) -> None:
-        """Shows the outcomes under the current script."""
-        reply, text = self.bench.program.ask(["stems"]), self.bench.program.text()
+        """Shows the outcomes under the current script. (An edit that was accepted is not broken off.)"""
+        reply, told = self.bench.program.ask_each([["stems"], ["text", "echo"]], has_grace=True)
+        text = self.bench.program.text(told)
         if reply.state != DONE or text is None:
             return
         with self.news:
