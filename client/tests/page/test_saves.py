@@ -218,6 +218,33 @@ class SavesInBrowser(BrowserPage):
             self.assertEqual((self.file(), self.texts(tab)[1]), (theirs + "// mine\n", ""))
             self.assertIn("as in the file", self.texts(tab)[0])
 
+    def test_what_was_taken_in_is_taken_back(self):
+        """Ctrl+Z brings back what was typed, step by step, and a save does not overwrite the file then."""
+        for at, both in ((len(SCRIPT), THEIRS + "// mine\n"), (0, "// theirs\n// mine\n" + SCRIPT)):
+            tab = self.show()
+            tab.run("S.editing || edit(true)")
+            tab.run("$('editor').setSelectionRange(%d, %d)" % (at, at))
+            tab.type("// mine\n")
+            mine = tab.run("$('editor').value")
+            self.save_outside(THEIRS)
+            tab.wait("!$('outside').hidden && S.st.text === %r" % THEIRS)
+            tab.run("$('outside').querySelector('button').click()")
+            merged = tab.wait("$('outside').hidden && $('editor').value")
+            self.assertIn("// theirs", merged)
+            tab.press("z", modifiers=2)
+            tab.wait("$('editor').value === %r && !$('outside').hidden" % mine)
+            tab.press("s", modifiers=2)
+            tab.wait("!S.saving && $('bar').innerText.includes('Nothing was written')")
+            tab.press("z", modifiers=2)
+            tab.wait("$('editor').value === %r" % SCRIPT)
+            for text in (mine, merged):
+                tab.press("y", modifiers=2)
+                tab.wait("$('editor').value === %r" % text)
+            tab.wait("$('outside').hidden")
+            tab.press("s", modifiers=2)
+            tab.wait("$('bar').innerText.includes('Saved.') && !S.saving")
+            self.assertEqual(self.file(), merged)
+
     def test_a_trial_in_the_editor(self):
         """It stays there as the file replaces it, and nothing says that undo brings it back."""
         tab = self.show()

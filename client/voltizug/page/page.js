@@ -5,7 +5,7 @@ const base = location.pathname.replace(/[^/]*$/, ''), ROW = 28, LINE = 20, TOP =
 const VIEWS = ['changes', 'classes', 'word', 'rule', 'families'];
 const S = {
   st: {}, words: [], out: [], marked: [], classes: null, changed: null, view: 'changes', kind: 'changed', fkind: 'under', sort: 'size', desc: true, pick: null, sel: null,
-  word: null, rule: null, fam: null, editing: false, dirty: false, base: null, saving: false, dropping: false, live: null, lines: [], ruleAt: new Map(), counts: new Map(), typed: null, at: 0, idle: 0, never: 0, oops: [], drawn: new Map(),
+  word: null, rule: null, fam: null, editing: false, dirty: false, base: null, saving: false, dropping: false, live: null, turns: [], lines: [], ruleAt: new Map(), counts: new Map(), typed: null, at: 0, idle: 0, never: 0, oops: [], drawn: new Map(),
 };
 const numbers = new Intl.NumberFormat('en-US'), number = n => numbers.format(n);
 const count = (n, one, many) => `${number(n)} ${n === 1 ? one : many || one + 's'}`;
@@ -450,11 +450,16 @@ async function merge() {
   editText(reply.text, reply.base);
   say(reply.both ? `${count(reply.both, 'place')} of ${name} and of your text differ: there the lines of ${name} are comments. Correct that, and save.` : `The changes of ${name} are in the text now.`, false);
 }
-// Shows a text in the editor that is not tried.
+// Shows a text in the editor that is not tried. It is an edit there: Ctrl+Z brings back what was typed, with the base that this had.
 function editText(text, base) {
   if (!S.editing) edit(true);
-  $('editor').value = text;
-  $('editor').focus({ preventScroll: true });
+  const editor = $('editor'), old = editor.value, same = common(text, old);
+  // (an edit that only inserts would be one with what was typed there before: so it has a line more)
+  if (same.head + same.tail === old.length) same.tail -= (old.indexOf('\n', old.length - same.tail) + 1 || old.length) - (old.length - same.tail);
+  S.turns.push([old, S.base], [text, base]);
+  editor.focus({ preventScroll: true });
+  editor.setSelectionRange(same.head, old.length - same.tail);
+  if (!document.execCommand('insertText', false, text.slice(same.head, text.length - same.tail)) || editor.value !== text) editor.value = text;
   Object.assign(S, { base });
   typed();
 }
@@ -467,6 +472,7 @@ function edit(on) {
   S.editing = on;
   document.body.classList.toggle('editing', on);
   if (on) setEditor();
+  S.turns = [];
   $('editor').hidden = !on;
   S.dirty = false;
   layout();
@@ -488,8 +494,9 @@ function showEditButtons() {
   showStatus();
 }
 let pausing = 0, drawing = 0;
-function typed() {
+function typed(event) {
   S.dirty = true;
+  if (/^history/.test(event?.inputType)) for (const [text, base] of S.turns) if (text === $('editor').value) S.base = base;
   cancelAnimationFrame(drawing);
   drawing = requestAnimationFrame(() => { layout(); showEditButtons(); });
   clearTimeout(pausing);
