@@ -512,6 +512,24 @@ define stem as backwards ( do r do s )
         # (the pager shows the first line only)
         self.assertEqual(terminal.enter("changes").split("\n"), ["  news       new -> news", "3 words, 3 split since the mark"])
 
+    def test_lines_that_are_pasted_with_a_report_are_for_the_prompt(self):
+        terminal = self.begin(lines=6, term="xterm", PAGER="sh -c 'cat > /dev/null; echo paged; read key < /dev/tty'")
+        shown = terminal.type("stems\rwhy news\r", rb"stem +new.*\n> \Z")
+        self.assertIn("university  univers", shown)
+        self.assertNotIn("paged", shown)
+        self.assertIn("paged", terminal.type("stems\r", b"paged"))
+
+    def test_a_script_that_becomes_a_pipe(self):
+        """Nobody waits for who writes to it; another file in its place is read."""
+        terminal = self.begin(watches=True)
+        os.mkfifo(os.path.join(self.folder, "pipe"))
+        os.replace(os.path.join(self.folder, "pipe"), os.path.join(self.folder, "my.sbl"))
+        said = "my.sbl cannot be read: it is no regular file. The script that was read stays: save FILE keeps it."
+        self.assertIn(said, terminal.got(b"keeps it"))
+        self.assertIn(said, terminal.enter(""))
+        terminal.save(AUTHOR + "// new\n")
+        self.assertIn("no word and no class differs", terminal.got(b"differs"))
+
     def test_blanks_before_a_name_or_a_number(self):
         terminal = self.begin()
         self.assertIn("univers: ", terminal.enter("largest  1"))

@@ -216,6 +216,9 @@ class Bench(Stage):
         if word == "reload":
             self.look(self.script)
             read, lines = read_file(self.script), [self.program.reload]
+            if os.path.exists(self.script) and not os.path.isfile(self.script):
+                # (the program would wait for who writes to a pipe)
+                return Edit(word, Reply(DONE, ["no 57 NoFile"], []), self.changes)
         # (what it changes is seen by the stems before and after it, but for an edit of what is the mark)
         is_asked = has_own and bool(self.changes or self.program.now.words != self.program.marked.words)
         history, *stems, reply = self.program.ask_each([["history"], *[["stems"]] * is_asked, lines])

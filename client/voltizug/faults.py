@@ -53,6 +53,11 @@ def advice(line: str, source: str, carets: str, text: bytes) -> str:
         return ". Look for a missing quote before it, too"
     if " => is of Snowball" in line and re.search(r"\$\s*\w+\s*=>", source):
         return ". Did you mean >=?"
+    if line.endswith(": <= cannot follow what is before it") and re.search(r"<=\s*'", source):
+        return ". Did you mean <-?"
+    if " has no closing quote" in line and re.search(r"\w''|''\w", source):
+        signs = re.search(r"\bstringescapes\s+(\S)\s*(\S)", text.decode("utf-8", "replace"))
+        return ". A quote in a literal is %s'%s" % signs.groups() if signs else ". A quote in a literal is {'}, with stringescapes {} above it"
     if line.endswith(" the name that is inserted here") and "^" in carets:
         name = source[carets.index("^") + 1 :].partition("}")[0]
         names = re.findall(r"\bstringdef\s+(\S+)", text.decode("utf-8", "replace"))

@@ -330,8 +330,8 @@ def wrong_ways(script: Script, bench: Bench, outcomes: Sequence[Outcome]) -> Ite
     sizes = {len(string) for _, _, string in places.entries} - {0}
     begins, ends = ({row.word[:size] for row in outcomes for size in sizes}, {row.word[-size:] for row in outcomes for size in sizes})
     what = {
-        False: "{0} runs forwards, and {1} of these strings, as '{2}', only end words: define {0} in backwardmode, and backwards {0}, is meant, perhaps",
-        True: "{0} runs backwards, and {1} of these strings, as '{2}', only begin words: a define outside of backwardmode is meant, perhaps",
+        False: "{0} runs forwards, and {1} of these strings, as '{2}', only end words: perhaps it should be defined in backwardmode, and called by backwards {0}",
+        True: "{0} runs backwards, and {1} of these strings, as '{2}', only begin words: perhaps it should be defined outside of backwardmode",
     }
     for (name, k), there in ((key, there) for key, there in strings.items() if key[0] in items):
         start, is_back = int(places.amongs[name, k].start), items[name].is_backward
@@ -369,7 +369,10 @@ def lints(bench: Bench, has_all: bool = False) -> List[str]:
     found += wrong_ways(script, bench, outcomes) if outcomes and script.places.entries and sees_runs else []
     beyond = [token for token in script.tokens if has_all and token.kind == "literal" and not token.text.isascii()]
     others = " (and {})".format(counted(len(beyond) - 1, "more literal")) if len(beyond) > 1 else ""
-    found += [(token.start, "%s has a letter beyond ASCII%s: other compilers ask for a stringdef" % (short(token.text), others)) for token in beyond[:1]]
+    asked = ": other compilers ask for its code, as {U+%04X} after stringescapes {}"
+    for token in beyond[:1]:
+        code = ord(next(c for c in token.text if not c.isascii()))
+        found.append((token.start, "%s has a letter beyond ASCII%s" % (short(token.text), others) + asked % code))
     shown = ["%s: %s" % (named(script.places.spot(start)), what) for start, what in sorted(found)]
     more = 0 if has_all else max(0, len(shown) - MOST)
     shown[len(shown) - more :] = ['.. and {:,} more: "lint" shows all'.format(more)] * (more > 0)

@@ -35,7 +35,9 @@ class Screen:
         """Writes lines; those of a text are not broken. A report may go to the pager; so many figures at its end come after that."""
         shown = list(map(layout.named, lines)) if is_text else self.broken(lines)
         figures = self.broken(lines[len(lines) - last :])
-        is_paged = is_report and self.has_pager and not self.editor.is_above and len(shown) >= self.size().lines
+        # (keys that are there already are for the prompt, and a pager would take them)
+        has_keys = self.editor.is_above or self.editor.pending or self.editor.has_key()
+        is_paged = is_report and self.has_pager and len(shown) >= self.size().lines and not has_keys
         if is_paged and self.page(shown[: len(shown) - len(figures)]):
             shown, is_report = figures, False
         if self.has_colour and not is_text:

@@ -75,7 +75,7 @@ class Editors(Case):
         self.assertIn("nowhere is not declared", seen.pop("fault"))
         wanted = {
             "two": "true", "fixes": "Remove 'sses'", "another": "  Step_1a  among 1 takes 'ies'   porter.sbl:29:13", "windows": "2, in the script: true",
-            "from the report": "2", "in the report": "nofile", "syntax": "snowball", "lenses": "true", "corrected": "true", "changed": "true", "definition": "    define Step_1a as (",
+            "from the report": "2", "an only window": "1", "in the report": "nofile", "syntax": "snowball", "lenses": "true", "corrected": "true", "changed": "true", "definition": "    define Step_1a as (",
             "why": "  Step_1a  among 1 takes 'sses'   porter.sbl:28:13", "rename": "true", "words": "-> care (was caress)",
         }
         self.assertEqual(seen, wanted)

@@ -218,6 +218,25 @@ class SavesInBrowser(BrowserPage):
             self.assertEqual((self.file(), self.texts(tab)[1]), (theirs + "// mine\n", ""))
             self.assertIn("as in the file", self.texts(tab)[0])
 
+    def test_a_typed_text_that_is_left(self):
+        """The first click says what the second one does, and what that dropped is there again at a click."""
+        tab = self.show()
+        self.type(tab)
+        for _ in range(2):
+            tab.press("Escape")
+            tab.wait("$('bar').innerText.includes('Leave drops them')")
+        tab.run("$('editor').setSelectionRange(0, 0)")
+        tab.type("// more\n")
+        tab.run("$('edit').click()")
+        self.assertIn("Leave again drops them", self.texts(tab)[2])
+        self.assertTrue(tab.run("S.editing && S.dirty"))
+        tab.run("$('edit').click()")
+        self.assertEqual((tab.run("S.editing"), self.texts(tab)[2].split("\n")[0]), (False, "What you typed is dropped."))
+        tab.run("$('bar').querySelector('button').click()")
+        tab.wait("S.editing && S.dirty && $('editor').value === %r" % ("// more\n" + TYPED))
+        tab.press("z", modifiers=2)
+        tab.wait("$('editor').value === %r" % SCRIPT)
+
     def test_what_was_taken_in_is_taken_back(self):
         """Ctrl+Z brings back what was typed, step by step, and a save does not overwrite the file then."""
         for at, both in ((len(SCRIPT), THEIRS + "// mine\n"), (0, "// theirs\n// mine\n" + SCRIPT)):

@@ -5,7 +5,7 @@ const base = location.pathname.replace(/[^/]*$/, ''), ROW = 28, LINE = 20, TOP =
 const VIEWS = ['changes', 'classes', 'word', 'rule', 'families'];
 const S = {
   st: {}, words: [], out: [], marked: [], classes: null, changed: null, view: 'changes', kind: 'changed', fkind: 'under', sort: 'size', desc: true, pick: null, sel: null,
-  word: null, rule: null, fam: null, editing: false, dirty: false, base: null, saving: false, dropping: false, live: null, turns: [], lines: [], ruleAt: new Map(), counts: new Map(), typed: null, at: 0, idle: 0, never: 0, oops: [], drawn: new Map(),
+  word: null, rule: null, fam: null, editing: false, dirty: false, base: null, saving: false, dropping: false, live: null, turns: [], leaving: null, lines: [], ruleAt: new Map(), counts: new Map(), typed: null, at: 0, idle: 0, never: 0, oops: [], drawn: new Map(),
 };
 const numbers = new Intl.NumberFormat('en-US'), number = n => numbers.format(n);
 const count = (n, one, many) => `${number(n)} ${n === 1 ? one : many || one + 's'}`;
@@ -472,12 +472,24 @@ function edit(on) {
   S.editing = on;
   document.body.classList.toggle('editing', on);
   if (on) setEditor();
-  S.turns = [];
+  Object.assign(S, { turns: [], leaving: null });
   $('editor').hidden = !on;
   S.dirty = false;
   layout();
   showEditButtons();
   if (on) $('editor').focus({ preventScroll: true });
+}
+// Leaves the editor. A text that was not tried is dropped only by a second click, and is there again if that was a mistake.
+function leave(isClick) {
+  const text = $('editor').value, { base, dirty } = S;
+  if (dirty && !(isClick && S.leaving === text)) {
+    S.leaving = text;
+    say(`The text has changes that were not tried: Ctrl+Enter tries them, Leave ${isClick ? 'again ' : ''}drops them.`, false);
+    return;
+  }
+  edit(false);
+  $('bar').hidden = true;
+  if (dirty) say('What you typed is dropped.', false, ['Edit it again', () => editText(text, base)]);
 }
 function showEditButtons() {
   const st = S.st, is_there = st.text !== undefined;
@@ -814,9 +826,9 @@ function setUpScript() {
   $('editor').addEventListener('keydown', event => {
     if (event.key === 'Enter' && (event.ctrlKey || event.metaKey)) { event.preventDefault(); tryIt(); }
     else if (event.key === 's' && (event.ctrlKey || event.metaKey)) { event.preventDefault(); save(); }
-    else if (event.key === 'Escape') { if (!S.dirty) edit(false); else say('The text has changes that were not tried: Ctrl+Enter tries them, Leave drops them.', false); }
+    else if (event.key === 'Escape') leave(false);
   });
-  for (const [id, act] of Object.entries({ try: tryIt, save, drop, edit: () => edit(!S.editing) })) $(id).addEventListener('click', act);
+  for (const [id, act] of Object.entries({ try: tryIt, save, drop, edit: () => S.editing ? leave(true) : edit(true) })) $(id).addEventListener('click', act);
 }
 function setUpTop() {
   const acts = {
