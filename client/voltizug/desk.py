@@ -119,9 +119,10 @@ class Desk:
     def misplaced(self) -> str:
         """Returns what is said if the second file looks like a script, and the first one does not, or the first one like a list of words."""
         script, *words = [(text or b"")[:1048576] for text in self.files]
-        if b"externals" in script or not (LIST.match(script) or any(b"externals" in text for text in words)):
+        is_script, is_list = b"externals" in b"".join(words), bool(LIST.match(script))
+        if b"externals" in script or not (is_script or is_list):
             return ""
-        what = short(self.paths[0]) + " looks like a list of words" if LIST.match(script) else short(self.paths[1]) + " looks like a script"
+        what = short(self.paths[1]) + " looks like a script" if is_script else short(self.paths[0]) + " looks like a list of words"
         return "%s. The script comes first: %s work SCRIPT WORDS" % (what, CALLED)
 
     def show_saved(self) -> None:

@@ -202,6 +202,18 @@ class Edits(Page):
         self.assertEqual((live.part("text"), live.part("notice"), live.part("isTrial")), (OTHER, "", True))
         self.assertEqual((live.part("history")["done"], live.bench.program.process), (["trial"], process))
 
+    def test_words_that_are_added(self):
+        """Those that are there are passed over, and what was added is shown also if another one is refused."""
+        live = self.page()
+        live.add(["walker", "my talk", "talk", "talks", "walker"])
+        self.assertEqual(live.part("notice"), 'In the vocabulary already: talk. 3 words are added. A blank is a part of the word: "my talk".')
+        self.assertEqual((live.outcomes.words[4:], live.part("added")), (["walker", "my talk", "talks"], 3))
+        self.assertRaisesRegex(Refused, "255 characters", live.add, ["one", "x" * 256, "two"])
+        self.assertIn("255 characters", live.part("notice"))
+        self.assertEqual((live.outcomes.words[7:], live.part("added")), (["one"], 4))
+        live.add(["more"])
+        self.assertEqual(live.part("notice"), "")
+
     def test_saves_in_a_row(self):
         live = self.page()
         self.watch(live)
