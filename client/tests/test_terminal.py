@@ -387,7 +387,7 @@ define stem as backwards ( do r do s )
         self.assertEqual(terminal.enter("classes > out"), there)
         for path in ("my.sbl", "my.words"):
             self.assertIn("and classes does not overwrite it", terminal.enter("classes > " + path, "classes > " + path))
-        self.assertIn("/dev/null is there already, and classes does not overwrite it", terminal.enter("classes > /dev/null", "classes > /dev/null"))
+        self.assertIn("/dev/null cannot be written: it is no regular file. Name another file.", terminal.enter("classes > /dev/null", "classes > /dev/null"))
         self.assertEqual(terminal.enter("stats > state"), "state cannot be written: it is a folder. Name a file in it.")
 
     def test_signs_and_rows_of_commands_that_are_no_reports(self):

@@ -164,11 +164,18 @@ def bare(body: Sequence[Token]) -> Iterable[Tuple[int, int]]:
 
 
 def bare_commands(script: Script) -> Iterable[Lint]:
-    """A routine that changes something and may fail, or ( .. or such a routine ), without `do` and before something else in an external."""
+    """`false`, or a `fail`, before something else; in an external also a routine that changes something and may fail, or ( .. or such a routine ),
+    without `do`."""
     doubtful = script.doubtful & script.doing(*CHANGING)
     for name, body in script.bodies.items():
-        for i, end in bare(body) if script.names.kinds.get(name) == "external" else ():
-            if body[end].text in doubtful or i < end and body[end - 2].text == "or" and body[end - 1].text in doubtful:
+        for i, end in bare(body):
+            is_plain = body[i].text == "false" or body[i + 1].text in ("true", "false")
+            after = body[i + 1 + (body[i].text == "fail") if is_plain else end_of(body, i + 1) :]
+            if body[i].text in ("false", "fail") and after and after[0].text != ")":
+                yield body[i].start, "%s always fails, and nothing after it in %s runs" % (body[i].text, name)
+            elif script.names.kinds.get(name) != "external":
+                continue
+            elif body[end].text in doubtful or i < end and body[end - 2].text == "or" and body[end - 1].text in doubtful:
                 what = "( .. )" if i < end else body[i].text
                 yield body[i].start, "if {0} fails, nothing after it in {1} runs: do {0} is meant, perhaps".format(what, name)
 
@@ -278,14 +285,24 @@ def unset_integers(script: Script) -> Iterable[Lint]:
 
 
 def strange_strings(script: Script, outcomes: Sequence[Outcome]) -> Iterable[Lint]:
-    """The strings of amongs with a letter that no word has and no command puts in."""
-    there = set().union(*put_in(script.tokens), *(row.word + row.stem * (row.kind == "stem") for row in outcomes))  # type: Set[str]
-    entries = [(string, row) for (_, _, string), row in script.places.entries.items() if outcomes and set(string) - there]
-    # (of those in another form of Unicode a warning speaks once)
-    for string, row in [(string, row) for string, row in entries if len(composed(string)) == len(string)]:
+    """The strings of routines with a letter that no word has and no command puts in."""
+    found = list(values_of(script.tokens))
+    there = set().union(*(value for _, value, is_put in found if is_put), *(row.word + row.stem * (row.kind == "stem") for row in outcomes))  # type: Set[str]
+    starts = {token.start for body in script.bodies.values() for token in body}
+    strings = {token.start: value for token, value, is_put in found if not is_put and token.start in starts}
+    strings.update({int(row.start): string for (_, _, string), row in script.places.entries.items()})
+    for start, string in sorted(strings.items()):
         strange = list(map(letter, sorted(set(string) - there)))
-        if strange:
-            yield int(row.start), "'%s' has %s, which no word has and no command puts in" % (short(string), in_words(strange, "and", 6))
+        # (of those in another form of Unicode a warning speaks once)
+        if strange and outcomes and len(composed(string)) == len(string):
+            yield start, "'%s' has %s, which no word has and no command puts in" % (short(string), in_words(strange, "and", 6))
+
+
+def put_blanks(script: Script, outcomes: Sequence[Outcome]) -> Iterable[Lint]:
+    """The strings with a blank at an end that commands put into the text, if no word has a blank."""
+    for token, value, is_put in values_of(script.tokens):
+        if is_put and value != value.strip(" ") and outcomes and not any(" " in row.word for row in outcomes):
+            yield token.start, "%s puts a blank into the text, and no word has one" % short(token.text)
 
 
 def letter(c: str) -> str:
@@ -294,8 +311,8 @@ def letter(c: str) -> str:
     return c if "!" <= c <= "~" else "%s (%s)" % (c, number) if unicodedata.category(c)[0] in "LNPS" else number
 
 
-def put_in(tokens: Sequence[Token]) -> Iterable[str]:
-    """The values of the literals that commands put into the text."""
+def values_of(tokens: Sequence[Token]) -> Iterable[Tuple[Token, str, bool]]:
+    """The literals outside of `stringdef`, with their values, and whether a command puts them into the text."""
     signs, macros = "", {}  # type: str, Dict[str, str]
     for i, token in enumerate(tokens):
         signs = token.text if token.kind == "inserts" else signs
@@ -308,8 +325,8 @@ def put_in(tokens: Sequence[Token]) -> Iterable[str]:
             value = "".join(chr(min(int(code, base), 0x10FFFF)) for code in value.split()) if base else value
             # (macros of macros may be long: then the letters are enough)
             macros[second if base else last] = value if len(value) < LONG else "".join(set(value))
-        elif last in PUTTING:
-            yield value
+        else:
+            yield token, value, last in PUTTING
 
 
 def inserted(text: str, signs: str, macros: Dict[str, str]) -> str:
@@ -366,6 +383,7 @@ def lints(bench: Bench, has_all: bool = False) -> List[str]:
     sees_runs = has_all or int(bench.program.now.limit) * sum(row[1:] == ("refused", "Steps") for row in outcomes) <= COSTLY
     found += stopping_calls(script, bench, [start for start, _ in found]) if sees_words and sees_runs else []
     found += strange_strings(script, outcomes) if has_all or bench.size >= FEW else []
+    found += put_blanks(script, outcomes)
     found += wrong_ways(script, bench, outcomes) if outcomes and script.places.entries and sees_runs else []
     beyond = [token for token in script.tokens if has_all and token.kind == "literal" and not token.text.isascii()]
     others = " (and {})".format(counted(len(beyond) - 1, "more literal")) if len(beyond) > 1 else ""

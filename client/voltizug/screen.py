@@ -11,8 +11,9 @@ from .keys import Broken, Editor, Hangup
 
 # A terminal that does not tell its size, and the least that is taken as one; how many lines are written before it is looked whether Ctrl-C came.
 USUAL, LEAST, PART = (80, 24), (12, 4), 200
-# How less is run if its own variables say nothing else: it says how one goes on and back, and writes no file for a command that is typed there.
-LESS = {"LESS": "FRXPs?ethe end, q goes back:space shows more, q goes back.$", "LESSSECURE": "1"}
+# How less is run if its own variables say nothing else: it says how one goes on and back, writes no file for a command that is typed there,
+# and shows UTF-8 in each locale.
+LESS = {"LESS": "FRXPs?ethe end, q goes back:space shows more, q goes back.$", "LESSSECURE": "1", "LESSCHARSET": "utf-8"}
 
 
 class Screen:

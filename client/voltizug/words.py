@@ -46,6 +46,7 @@ MAY_NOT: Dict[str, str] = {
     "gone?": "{path} is not there any more (deleted or renamed). Nothing was written: save {path} again writes it anew.",
     "no folder": "{path} cannot be written: there is no folder {folder}.",
     "folder": "{path} cannot be written: it is a folder. Name a file in it.",
+    "pipe": "{path} cannot be written: it is no regular file. {Other}.",
     "closed": "{path} cannot be written: you may not write there. {Other}.",
     "full": "{path} cannot be written: {room}.",
     "full, there": "{path} cannot be written: {room}. It has its former text.",
