@@ -132,10 +132,17 @@ def plain_braces(script: Script) -> Iterable[Lint]:
 
 
 def undefined(script: Script) -> Iterable[Lint]:
-    """The declarations of routines and groupings that have no definition."""
-    names = script.names
-    for name in [name for name, kind in names.kinds.items() if kind in ("external", "routine", "grouping") and name not in names.items]:
-        yield names.declared[name].start, "%s is declared, but not defined" % short(name)
+    """The declarations of routines and groupings that have no definition; those of others without a use, and of booleans that are only set."""
+    names, uses = script.names, {}  # type: Names, Dict[str, List[str]]
+    for before, token in zip(script.tokens, script.tokens[1:]):
+        if token.text in names.declared and token.start != names.declared[token.text].start:
+            uses.setdefault(token.text, []).append(before.text)
+    for name, kind in names.kinds.items():
+        lacks = "defined" if kind in ("external", "routine", "grouping") else "used"
+        if name not in (names.items if lacks == "defined" else uses):
+            yield names.declared[name].start, "%s is declared, but not %s" % (short(name), lacks)
+        elif kind == "boolean" and {"set", "unset"}.issuperset(uses[name]):
+            yield names.declared[name].start, "%s is set, but not tested" % short(name)
 
 
 def unsure(body: Sequence[Token]) -> List[Token]:

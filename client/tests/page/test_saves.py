@@ -81,6 +81,7 @@ class Saves(Page):
         live = self.page()
         self.assertEqual(live.save(False, FAULTY, live.part("base")), {})
         self.assertEqual((live.part("fault")["origin"], live.part("fault")["base"]), ("trial", live.part("file")))
+        self.assertEqual(live.part("notice"), "Nothing was written: the text has a fault.")
         self.assert_file(live, SCRIPT)
 
     def test_a_trial_that_differs_in_comments_alone(self):
@@ -236,6 +237,32 @@ class SavesInBrowser(BrowserPage):
         tab.wait("S.editing && S.dirty && $('editor').value === %r" % ("// more\n" + TYPED))
         tab.press("z", modifiers=2)
         tab.wait("$('editor').value === %r" % SCRIPT)
+
+    def test_a_typed_text_and_the_file_again(self):
+        tab = self.show()
+        self.type(tab)
+        tab.run("$('reload').click()")
+        tab.wait("$('bar').innerText.includes('the same click again drops them')")
+        self.assertTrue(tab.run("S.dirty && $('editor').value === %r" % TYPED))
+        tab.run("$('reload').click()")
+        tab.wait("!S.dirty && $('editor').value === %r" % SCRIPT)
+
+    def test_a_save_from_elsewhere(self):
+        """Also of a text with a fault, of which is said that nothing was written."""
+        tab = self.show()
+        self.type(tab)
+        tab.press("Enter", modifiers=2)
+        tab.wait("!S.dirty && S.st.isTrial")
+        tab.run("$('change-list').focus()")
+        tab.press("s", modifiers=2)
+        tab.wait("$('bar').innerText.includes('Saved.') && !S.saving")
+        self.assertEqual(self.file(), TYPED)
+        tab.run("$('editor').setSelectionRange(0, 0)")
+        tab.type("!")
+        tab.run("$('change-list').focus()")
+        tab.press("s", modifiers=2)
+        tab.wait("$('bar').innerText.includes('Nothing was written: the text has a fault.') && !S.saving")
+        self.assertEqual(self.file(), TYPED)
 
     def test_what_was_taken_in_is_taken_back(self):
         """Ctrl+Z brings back what was typed, step by step, and a save does not overwrite the file then."""

@@ -373,6 +373,8 @@ class Live:
                 raise Refused("%s cannot be read, and was not overwritten." % short(bench.script))
             self.take_trial(text, base)
             if ink.shown_text(bench.program.now.text) != text.replace("\r\n", "\n"):
+                if self.part("fault"):
+                    self.publish(notice="Nothing was written: the text has a fault.")
                 return {}
             self.saves.check(is_sure, base, self.file_now())
             reply = bench.write("save", bench.script)

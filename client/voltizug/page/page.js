@@ -479,14 +479,17 @@ function edit(on) {
   showEditButtons();
   if (on) $('editor').focus({ preventScroll: true });
 }
-// Leaves the editor. A text that was not tried is dropped only by a second click, and is there again if that was a mistake.
+// Whether a button may drop what is in the editor: if it was tried, or at the second click.
+function mayDrop(id, how, isClick) {
+  const asked = id + $('editor').value, is_sure = !isTyped() || isClick && S.leaving === asked;
+  S.leaving = is_sure ? null : asked;
+  if (!is_sure) say(`The text has changes that were not tried: Ctrl+Enter tries them, ${how} drops them.`, false);
+  return is_sure;
+}
+// Leaves the editor. What was dropped is there again if that was a mistake.
 function leave(isClick) {
   const text = $('editor').value, { base, dirty } = S;
-  if (dirty && !(isClick && S.leaving === text)) {
-    S.leaving = text;
-    say(`The text has changes that were not tried: Ctrl+Enter tries them, Leave ${isClick ? 'again ' : ''}drops them.`, false);
-    return;
-  }
+  if (!mayDrop('edit', isClick ? 'Leave again' : 'Leave', isClick)) return;
   edit(false);
   $('bar').hidden = true;
   if (dirty) say('What you typed is dropped.', false, ['Edit it again', () => editText(text, base)]);
@@ -825,14 +828,13 @@ function setUpScript() {
   $('editor').addEventListener('input', typed);
   $('editor').addEventListener('keydown', event => {
     if (event.key === 'Enter' && (event.ctrlKey || event.metaKey)) { event.preventDefault(); tryIt(); }
-    else if (event.key === 's' && (event.ctrlKey || event.metaKey)) { event.preventDefault(); save(); }
     else if (event.key === 'Escape') leave(false);
   });
   for (const [id, act] of Object.entries({ try: tryIt, save, drop, edit: () => S.editing ? leave(true) : edit(true) })) $(id).addEventListener('click', act);
 }
 function setUpTop() {
   const acts = {
-    undo: () => post('undo', { count: 1 }), redo: () => post('redo', { count: 1 }), mark: () => post('mark'), append: () => post('append'), reload: drop, 'mark-stems': () => post('mark', { stems: true }),
+    undo: () => post('undo', { count: 1 }), redo: () => post('redo', { count: 1 }), mark: () => post('mark'), append: () => post('append'), reload: () => { if (mayDrop('reload', 'the same click again', true)) drop(); }, 'mark-stems': () => post('mark', { stems: true }),
     keys: () => $('help').showModal(), 'warnings-button': () => showWarnings($('warnings').hidden),
   };
   for (const [id, act] of Object.entries(acts)) $(id).addEventListener('click', act);
@@ -855,6 +857,7 @@ function setUpTop() {
 }
 function press(event) {
   if (event.key === 'Escape') { for (const menu of document.querySelectorAll('details.menu[open]')) { menu.open = false; menu.querySelector('summary').focus(); } }
+  if (event.key === 's' && (event.ctrlKey || event.metaKey) && !$('save').hidden) { event.preventDefault(); save(); }
   if (event.ctrlKey || event.metaKey || event.altKey || event.target.closest('input, textarea, dialog')) return;
   const key = event.key, view = VIEWS[key - 1], acts = { u: 'undo', r: 'redo', m: 'mark', d: 'theme', '?': 'keys', e: 'edit', n: 'next-never' };
   if (view) { const tab = $('tab-' + view); if (!tab.hidden) { tab.click(); tab.focus(); } }
