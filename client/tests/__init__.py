@@ -35,7 +35,7 @@ class Beside(unittest.TestSuite):
     def run(self, result: Any, debug: bool = False) -> Any:
         parts: Dict[str, List[unittest.TestCase]] = {}
         for test in cases(self):
-            is_together = "setUpClass" in vars(type(test))
+            is_together = any("setUpClass" in vars(kind) for kind in type(test).__mro__ if kind is not unittest.TestCase)
             parts.setdefault(type(test).__qualname__ if is_together else test.id(), []).append(test)
         first = sorted(parts.values(), key=lambda part: type(part[0]).__name__ not in LONG)
         with ProcessPoolExecutor(PROCESSES, multiprocessing.get_context("fork")) as pool:

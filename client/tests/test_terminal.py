@@ -387,7 +387,7 @@ define stem as backwards ( do r do s )
         self.assertEqual(terminal.enter("classes > out"), there)
         for path in ("my.sbl", "my.words"):
             self.assertIn("and classes does not overwrite it", terminal.enter("classes > " + path, "classes > " + path))
-        self.assertIn("/dev/null is there already, and classes does not overwrite it", terminal.enter("classes > /dev/null", "classes > /dev/null"))
+        self.assertIn("/dev/null cannot be written: it is no regular file. Name another file.", terminal.enter("classes > /dev/null", "classes > /dev/null"))
         self.assertEqual(terminal.enter("stats > state"), "state cannot be written: it is a folder. Name a file in it.")
 
     def test_signs_and_rows_of_commands_that_are_no_reports(self):
@@ -511,6 +511,24 @@ define stem as backwards ( do r do s )
         terminal.enter("routine plural", "true", ".")
         # (the pager shows the first line only)
         self.assertEqual(terminal.enter("changes").split("\n"), ["  news       new -> news", "3 words, 3 split since the mark"])
+
+    def test_lines_that_are_pasted_with_a_report_are_for_the_prompt(self):
+        terminal = self.begin(lines=6, term="xterm", PAGER="sh -c 'cat > /dev/null; echo paged; read key < /dev/tty'")
+        shown = terminal.type("stems\rwhy news\r", rb"stem +new.*\n> \Z")
+        self.assertIn("university  univers", shown)
+        self.assertNotIn("paged", shown)
+        self.assertIn("paged", terminal.type("stems\r", b"paged"))
+
+    def test_a_script_that_becomes_a_pipe(self):
+        """Nobody waits for who writes to it; another file in its place is read."""
+        terminal = self.begin(watches=True)
+        os.mkfifo(os.path.join(self.folder, "pipe"))
+        os.replace(os.path.join(self.folder, "pipe"), os.path.join(self.folder, "my.sbl"))
+        said = "my.sbl cannot be read: it is no regular file. The script that was read stays: save FILE keeps it."
+        self.assertIn(said, terminal.got(b"keeps it"))
+        self.assertIn(said, terminal.enter(""))
+        terminal.save(AUTHOR + "// new\n")
+        self.assertIn("no word and no class differs", terminal.got(b"differs"))
 
     def test_blanks_before_a_name_or_a_number(self):
         terminal = self.begin()
@@ -779,7 +797,7 @@ class Traps(Case):
         os.kill(terminal.child, signal.SIGHUP)
         self.assertEqual(terminal.ended(), 1)
         again = self.terminal(self.folder)
-        self.assertIn("closed (2 added words): rescue brings them back", again.got())
+        self.assertIn("ended (2 added words): rescue brings them back", again.got())
         self.assertEqual(again.enter("rescue").split("\n"), ["hundo is added: hundo", "kato is added: kato"])
         self.assertEqual(again.enter("rescue"), "No typed edits were left behind.")
         self.assertEqual(again.enter("rescue drop"), "No typed edits were left behind.")
@@ -787,7 +805,7 @@ class Traps(Case):
         os.kill(again.child, signal.SIGKILL)
         self.assertEqual(again.ended(), -signal.SIGKILL)
         third = self.terminal(self.folder)
-        self.assertIn("closed (plural and 2 added words): rescue", third.got())
+        self.assertIn("ended (plural and 2 added words): rescue", third.got())
         self.assertIn("3 words, 3 split, 2 words added since the mark", third.enter("rescue"))
         third.enter("append", "save my.sbl", "quit")
         self.assertEqual(third.ended(), 0)

@@ -216,6 +216,9 @@ class Bench(Stage):
         if word == "reload":
             self.look(self.script)
             read, lines = read_file(self.script), [self.program.reload]
+            if os.path.exists(self.script) and not os.path.isfile(self.script):
+                # (the program would wait for who writes to a pipe)
+                return Edit(word, Reply(DONE, ["no 57 NoFile"], []), self.changes)
         # (what it changes is seen by the stems before and after it, but for an edit of what is the mark)
         is_asked = has_own and bool(self.changes or self.program.now.words != self.program.marked.words)
         history, *stems, reply = self.program.ask_each([["history"], *[["stems"]] * is_asked, lines])
@@ -336,12 +339,12 @@ class Bench(Stage):
             ("script", self.is_script(path) and not is_save),
             ("no folder", not os.path.isdir(folder)),
             ("folder", os.path.isdir(path)),
+            ("pipe", is_there and not os.path.isfile(path)),
             ("closed", not os.access(path if is_there else folder, os.W_OK)),
             ("gone?", is_own and not is_there and self.script not in self.gone),
             ("gone", is_append and path == self.words and not os.path.lexists(path)),
             ("refused?", is_own and is_refused),
             ("undone?", is_own and self.is_older and self.script not in self.saved()),
-            ("there", not is_new and is_report and not os.path.isfile(path)),
             ("again?", is_other and not is_save),
             ("there", is_other and name not in self.written),
             ("others", is_other),

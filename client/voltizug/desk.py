@@ -18,6 +18,8 @@ from .screen import Screen
 NONSENSE = 5
 # What becomes another one in a warning if something else is edited: its place, and figures.
 VARYING = re.compile(r"\A.+?:\d+:\d+: |\Anot in .+?: line \d+ of \w+: |[\d,]+ of [\d,]+ words")
+# A list of words: some lines, each of which has one, and no signs that a script begins with.
+LIST = re.compile(rb"(?:\s*[^\s()/]+[^\S\n]*\n){3,}\s*\Z")
 # Faults of the script have smaller numbers; the status after Ctrl-C at the start.
 LEAST, INTERRUPTED = 25, 130
 # Faults of the words, and what is said of them.
@@ -55,7 +57,7 @@ class Desk:
         """Has the files read, and shows figures; if one has a fault, shows it. Returns whether `work` goes on: it is open, or waits."""
         bench, before = self.bench, self.files
         self.files = [kept.read_file(path) for path in self.paths]
-        warned = 0 if self.looks_swapped() else self.warn(bench.words)
+        warned = 0 if self.misplaced() else self.warn(bench.words)
         reply = bench.open()
         if reply.is_done and bench.program.rows != ROWS:
             self.screen.say("The program writes rows %s, and this client knows rows %s: they are not of one version." % (bench.program.rows, ROWS))
@@ -79,9 +81,9 @@ class Desk:
             say(OF_WORDS[code].format(name=short(name), quoted=words.in_shell(name)), "This keeps work from starting. The other warnings do not." * (warned > 1))
         if not reply.said:
             say(words.SENTENCES[49] if reply.state == DONE else "The program ended at the start, with status %s." % bench.program.stop())
-        is_swapped = 0 < code < LEAST and self.looks_swapped()
-        say("%s looks like a script. The script comes first: %s work SCRIPT WORDS" % (short(bench.words or ""), CALLED) if is_swapped else "")
-        can_wait = (0 < code < LEAST or code in OF_WORDS) and not is_swapped and all(map(os.path.isfile, self.paths))
+        misplaced = self.misplaced() if 0 < code < LEAST else ""
+        say(misplaced)
+        can_wait = (0 < code < LEAST or code in OF_WORDS) and not misplaced and all(map(os.path.isfile, self.paths))
         if not can_wait and not self.has_waited:
             return False
         self.has_waited = True
@@ -107,15 +109,21 @@ class Desk:
             say("A block was open when the terminal was closed (%s, %s): the up arrow brings it back." % block)
         for left in [left for left in all_left if left.path or left.words][-1:]:
             names = left.edits + [counted(len(left.words), "added word")] * bool(left.words)
-            edits = "Edits that you typed before were left behind when the terminal was closed (%s)" % in_words(names, "and", 5)
+            edits = "Edits that you made before were in no file when work or the page ended (%s)" % in_words(names, "and", 5)
             older = " Older ones are there, too: rescue brings them back when it is typed again." if len(bench.kept.left()) > 1 else ""
             say(edits + ": rescue brings them back, rescue drop forgets them." + older)
         if not figures["words"] and not bench.words:
             say("To see stems: add WORD, or start with a file of words: %s work SCRIPT WORDS" % CALLED)
         say(sizes(figures))
 
-    def looks_swapped(self) -> bool:
-        return [b"externals" in (text or b"")[:1048576] for text in self.files] == [False, True]
+    def misplaced(self) -> str:
+        """Returns what is said if the second file looks like a script, and the first one does not, or the first one like a list of words."""
+        script, *words = [(text or b"")[:1048576] for text in self.files]
+        is_script, is_list = b"externals" in b"".join(words), bool(LIST.match(script))
+        if b"externals" in script or not (is_script or is_list):
+            return ""
+        what = short(self.paths[1]) + " looks like a script" if is_script else short(self.paths[0]) + " looks like a list of words"
+        return "%s. The script comes first: %s work SCRIPT WORDS" % (what, CALLED)
 
     def show_saved(self) -> None:
         """Reads again what was saved, and says which files are gone, or there again."""
@@ -225,12 +233,16 @@ class Desk:
         known.subtract(VARYING.sub("", line) for line in self.linted)
         return [line for line in self.linted if known[VARYING.sub("", line)] < 0]
 
-    def warn(self, path: Optional[str] = None) -> int:
-        """Gives the warnings on the script, and on a list of words, that were not given before. Returns how many. (The program says itself that
-        a script is not UTF-8.)"""
+    def new_warnings(self, path: Optional[str] = None) -> List[str]:
+        """Returns the warnings on the script, and on a list of words, that were not given before. (The program says itself that a script is not UTF-8.)"""
         of_script = [line for line in warn.on_file(self.bench.script, False) if warn.NOT_UTF8[1] not in line]
         found = [line for line in of_script + (warn.on_file(path, True) if path else []) if line not in self.warned]
         self.warned += found
+        return found
+
+    def warn(self, path: Optional[str] = None) -> int:
+        """Gives these warnings. Returns how many they are."""
+        found = self.new_warnings(path)
         self.screen.write(found)
         return len(found)
 
@@ -270,14 +282,13 @@ class Desk:
         self.bench.program.is_summing = True
         if self.editor.is_interrupted:
             raise Skipped
-        if edit.command == "reload":
-            self.warn()
         refused = [row for row in own if row.kind == "changed" and row.new_kind == "refused"]
         worst = next((row.word for row in refused if row.new in loops.NAMES), refused[0].word if refused else "")
         tail = self.new_lints() if edit.command in ("reload", *BLOCKS, *OPEN_BLOCKS) else []
         typed = "\n".join(lines[1:-1])
         tail += warn.on_typed(lines[0], typed, self.bench.by_word()) if not typed.isascii() else []
-        return [*tail, loops.ending(worst, self.bench) if refused else ""]
+        ending = loops.ending(worst, self.bench) if refused else ""
+        return [*(self.new_warnings() if edit.command == "reload" else []), *tail, ending]
 
     def added(self, changes: Sequence[Any]) -> Dict[str, rows.Outcome]:
         return self.bench.by_word() if any(row.kind == "added" for row in changes) else {}

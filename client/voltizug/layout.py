@@ -29,6 +29,11 @@ def short(text: str) -> str:
     return named(text) if len(text) <= LONGEST else named(text[:29]) + ".." + named(text[-29:])
 
 
+def quoted(name: str) -> str:
+    """Returns a word or a stem as it is shown: in quotes if it has a blank at an end."""
+    return '"%s"' % named(name) if name != name.strip() else named(name) or "(empty)"
+
+
 def columns(text: str) -> int:
     if text.isascii():
         return len(text) + 7 * text.count("\t")
@@ -77,7 +82,7 @@ def sizes(figures: Dict[str, int]) -> str:
 
 
 def listed(names: Sequence[str]) -> str:
-    return ", ".join(named(name) or "(empty)" for name in names)
+    return ", ".join(map(quoted, names))
 
 
 def in_words(names: Sequence[str], last: str, most: int = 20) -> str:
@@ -87,16 +92,16 @@ def in_words(names: Sequence[str], last: str, most: int = 20) -> str:
 
 
 def outcome(kind: str, text: str) -> str:
-    return "refused " + text if kind == "refused" else named(text) or "(empty)"
+    return "refused " + text if kind == "refused" else quoted(text)
 
 
 def change(row: Any, column: int = 0, outcomes: Optional[Dict[str, rows.Outcome]] = None) -> str:
     """Returns the line of a row of `changes`. A word that was added has its stem, if that is known."""
     if row.kind == "changed":
-        return "  %s  %s -> %s" % (padded(named(row.word), column), outcome(row.old_kind, row.old), outcome(row.new_kind, row.new))
+        return "  %s  %s -> %s" % (padded(quoted(row.word), column), outcome(row.old_kind, row.old), outcome(row.new_kind, row.new))
     if row.kind in ("added", "removed"):
         now = (outcomes or {}).get(row.word)
-        return "  %-8s %s%s" % (row.kind, named(row.word), " -> " + outcome(now.kind, now.stem) if now else "")
+        return "  %-8s %s%s" % (row.kind, quoted(row.word), " -> " + outcome(now.kind, now.stem) if now else "")
     old, new = (listed([names] if isinstance(names, str) else names) for names in (row.old, row.new))
     return "  %-8s %s -> %s" % (row.kind, old, new)
 
@@ -118,7 +123,7 @@ def changes(found: Sequence[Any], outcomes: Dict[str, rows.Outcome], room: int =
         counts = shares(counts, max(0, room - 1))
     lines: List[str] = []
     for part, count in zip(present, counts):
-        column = min(COLUMN, max((columns(named(row.word)) for row in part[:count]), default=0)) if part[0].kind == "changed" else 0
+        column = min(COLUMN, max((columns(quoted(row.word)) for row in part[:count]), default=0)) if part[0].kind == "changed" else 0
         lines += [change(row, column, outcomes) for row in part[:count]]
     more = len(found) - sum(counts)
     return lines + ["  .. and {:,} more: {}".format(more, all_)] * bool(more)

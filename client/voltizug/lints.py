@@ -132,10 +132,17 @@ def plain_braces(script: Script) -> Iterable[Lint]:
 
 
 def undefined(script: Script) -> Iterable[Lint]:
-    """The declarations of routines and groupings that have no definition."""
-    names = script.names
-    for name in [name for name, kind in names.kinds.items() if kind in ("external", "routine", "grouping") and name not in names.items]:
-        yield names.declared[name].start, "%s is declared, but not defined" % short(name)
+    """The declarations of routines and groupings that have no definition; those of others without a use, and of booleans that are only set."""
+    names, uses = script.names, {}  # type: Names, Dict[str, List[str]]
+    for before, token in zip(script.tokens, script.tokens[1:]):
+        if token.text in names.declared and token.start != names.declared[token.text].start:
+            uses.setdefault(token.text, []).append(before.text)
+    for name, kind in names.kinds.items():
+        lacks = "defined" if kind in ("external", "routine", "grouping") else "used"
+        if name not in (names.items if lacks == "defined" else uses):
+            yield names.declared[name].start, "%s is declared, but not %s" % (short(name), lacks)
+        elif kind == "boolean" and {"set", "unset"}.issuperset(uses[name]):
+            yield names.declared[name].start, "%s is set, but not tested" % short(name)
 
 
 def unsure(body: Sequence[Token]) -> List[Token]:
@@ -164,11 +171,18 @@ def bare(body: Sequence[Token]) -> Iterable[Tuple[int, int]]:
 
 
 def bare_commands(script: Script) -> Iterable[Lint]:
-    """A routine that changes something and may fail, or ( .. or such a routine ), without `do` and before something else in an external."""
+    """`false`, or a `fail`, before something else; in an external also a routine that changes something and may fail, or ( .. or such a routine ),
+    without `do`."""
     doubtful = script.doubtful & script.doing(*CHANGING)
     for name, body in script.bodies.items():
-        for i, end in bare(body) if script.names.kinds.get(name) == "external" else ():
-            if body[end].text in doubtful or i < end and body[end - 2].text == "or" and body[end - 1].text in doubtful:
+        for i, end in bare(body):
+            is_plain = body[i].text == "false" or body[i + 1].text in ("true", "false")
+            after = body[i + 1 + (body[i].text == "fail") if is_plain else end_of(body, i + 1) :]
+            if body[i].text in ("false", "fail") and after and after[0].text != ")":
+                yield body[i].start, "%s always fails, and nothing after it in %s runs" % (body[i].text, name)
+            elif script.names.kinds.get(name) != "external":
+                continue
+            elif body[end].text in doubtful or i < end and body[end - 2].text == "or" and body[end - 1].text in doubtful:
                 what = "( .. )" if i < end else body[i].text
                 yield body[i].start, "if {0} fails, nothing after it in {1} runs: do {0} is meant, perhaps".format(what, name)
 
@@ -278,14 +292,24 @@ def unset_integers(script: Script) -> Iterable[Lint]:
 
 
 def strange_strings(script: Script, outcomes: Sequence[Outcome]) -> Iterable[Lint]:
-    """The strings of amongs with a letter that no word has and no command puts in."""
-    there = set().union(*put_in(script.tokens), *(row.word + row.stem * (row.kind == "stem") for row in outcomes))  # type: Set[str]
-    entries = [(string, row) for (_, _, string), row in script.places.entries.items() if outcomes and set(string) - there]
-    # (of those in another form of Unicode a warning speaks once)
-    for string, row in [(string, row) for string, row in entries if len(composed(string)) == len(string)]:
+    """The strings of routines with a letter that no word has and no command puts in."""
+    found = list(values_of(script.tokens))
+    there = set().union(*(value for _, value, is_put in found if is_put), *(row.word + row.stem * (row.kind == "stem") for row in outcomes))  # type: Set[str]
+    starts = {token.start for body in script.bodies.values() for token in body}
+    strings = {token.start: value for token, value, is_put in found if not is_put and token.start in starts}
+    strings.update({int(row.start): string for (_, _, string), row in script.places.entries.items()})
+    for start, string in sorted(strings.items()):
         strange = list(map(letter, sorted(set(string) - there)))
-        if strange:
-            yield int(row.start), "'%s' has %s, which no word has and no command puts in" % (short(string), in_words(strange, "and", 6))
+        # (of those in another form of Unicode a warning speaks once)
+        if strange and outcomes and len(composed(string)) == len(string):
+            yield start, "'%s' has %s, which no word has and no command puts in" % (short(string), in_words(strange, "and", 6))
+
+
+def put_blanks(script: Script, outcomes: Sequence[Outcome]) -> Iterable[Lint]:
+    """The strings with a blank at an end that commands put into the text, if no word has a blank."""
+    for token, value, is_put in values_of(script.tokens):
+        if is_put and value != value.strip(" ") and outcomes and not any(" " in row.word for row in outcomes):
+            yield token.start, "%s puts a blank into the text, and no word has one" % short(token.text)
 
 
 def letter(c: str) -> str:
@@ -294,8 +318,8 @@ def letter(c: str) -> str:
     return c if "!" <= c <= "~" else "%s (%s)" % (c, number) if unicodedata.category(c)[0] in "LNPS" else number
 
 
-def put_in(tokens: Sequence[Token]) -> Iterable[str]:
-    """The values of the literals that commands put into the text."""
+def values_of(tokens: Sequence[Token]) -> Iterable[Tuple[Token, str, bool]]:
+    """The literals outside of `stringdef`, with their values, and whether a command puts them into the text."""
     signs, macros = "", {}  # type: str, Dict[str, str]
     for i, token in enumerate(tokens):
         signs = token.text if token.kind == "inserts" else signs
@@ -308,8 +332,8 @@ def put_in(tokens: Sequence[Token]) -> Iterable[str]:
             value = "".join(chr(min(int(code, base), 0x10FFFF)) for code in value.split()) if base else value
             # (macros of macros may be long: then the letters are enough)
             macros[second if base else last] = value if len(value) < LONG else "".join(set(value))
-        elif last in PUTTING:
-            yield value
+        else:
+            yield token, value, last in PUTTING
 
 
 def inserted(text: str, signs: str, macros: Dict[str, str]) -> str:
@@ -330,8 +354,8 @@ def wrong_ways(script: Script, bench: Bench, outcomes: Sequence[Outcome]) -> Ite
     sizes = {len(string) for _, _, string in places.entries} - {0}
     begins, ends = ({row.word[:size] for row in outcomes for size in sizes}, {row.word[-size:] for row in outcomes for size in sizes})
     what = {
-        False: "{0} runs forwards, and {1} of these strings, as '{2}', only end words: define {0} in backwardmode, and backwards {0}, is meant, perhaps",
-        True: "{0} runs backwards, and {1} of these strings, as '{2}', only begin words: a define outside of backwardmode is meant, perhaps",
+        False: "{0} runs forwards, and {1} of these strings, as '{2}', only end words: perhaps it should be defined in backwardmode, and called by backwards {0}",
+        True: "{0} runs backwards, and {1} of these strings, as '{2}', only begin words: perhaps it should be defined outside of backwardmode",
     }
     for (name, k), there in ((key, there) for key, there in strings.items() if key[0] in items):
         start, is_back = int(places.amongs[name, k].start), items[name].is_backward
@@ -366,10 +390,14 @@ def lints(bench: Bench, has_all: bool = False) -> List[str]:
     sees_runs = has_all or int(bench.program.now.limit) * sum(row[1:] == ("refused", "Steps") for row in outcomes) <= COSTLY
     found += stopping_calls(script, bench, [start for start, _ in found]) if sees_words and sees_runs else []
     found += strange_strings(script, outcomes) if has_all or bench.size >= FEW else []
+    found += put_blanks(script, outcomes)
     found += wrong_ways(script, bench, outcomes) if outcomes and script.places.entries and sees_runs else []
     beyond = [token for token in script.tokens if has_all and token.kind == "literal" and not token.text.isascii()]
     others = " (and {})".format(counted(len(beyond) - 1, "more literal")) if len(beyond) > 1 else ""
-    found += [(token.start, "%s has a letter beyond ASCII%s: other compilers ask for a stringdef" % (short(token.text), others)) for token in beyond[:1]]
+    asked = ": other compilers ask for its code, as {U+%04X} after stringescapes {}"
+    for token in beyond[:1]:
+        code = ord(next(c for c in token.text if not c.isascii()))
+        found.append((token.start, "%s has a letter beyond ASCII%s" % (short(token.text), others) + asked % code))
     shown = ["%s: %s" % (named(script.places.spot(start)), what) for start, what in sorted(found)]
     more = 0 if has_all else max(0, len(shown) - MOST)
     shown[len(shown) - more :] = ['.. and {:,} more: "lint" shows all'.format(more)] * (more > 0)

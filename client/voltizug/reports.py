@@ -4,7 +4,7 @@ from itertools import groupby
 from typing import Any, Callable, Dict, List, Sequence, Tuple
 
 from . import rows
-from .layout import COLUMN, columns, counted, listed, named, outcome, padded, percent, short, step_of
+from .layout import COLUMN, columns, counted, listed, named, outcome, padded, percent, quoted, short, step_of
 from .places import Places
 
 # How many lines of `why` are shown at most, before those that are left out and after them; how many tests.
@@ -22,12 +22,12 @@ Line = Tuple[str, str, str]
 
 def stems(lines: Sequence[str]) -> List[str]:
     found = rows.outcomes(lines)
-    column = min(COLUMN, max((columns(named(row.word)) for row in found), default=0))
-    return ["  %s  %s" % (padded(named(row.word), column), outcome(row.kind, row.stem)) for row in found]
+    column = min(COLUMN, max((columns(quoted(row.word)) for row in found), default=0))
+    return ["  %s  %s" % (padded(quoted(row.word), column), outcome(row.kind, row.stem)) for row in found]
 
 
 def classes(lines: Sequence[str]) -> List[str]:
-    return ["  %s: %s" % (named(row.stem) or "(empty)", listed(row.words)) for row in rows.classes(lines)]
+    return ["  %s: %s" % (quoted(row.stem), listed(row.words)) for row in rows.classes(lines)]
 
 
 def class_of(lines: Sequence[str]) -> List[str]:
@@ -50,7 +50,7 @@ def families(lines: Sequence[str]) -> List[str]:
     if within == 0:
         alone = "No line has two words of the vocabulary: a family is a line of words that belong together. Edits are not compared with it."
         return [alone, *unknown]
-    shown = ["  %-13s %s: %s" % (FIGURES[row.kind], named(row[1]) or "(empty)", listed(row[2])) for row in found if row.kind in ("under", "over")]
+    shown = ["  %-13s %s: %s" % (FIGURES[row.kind], quoted(row[1]), listed(row[2])) for row in found if row.kind in ("under", "over")]
     return shown + unknown + [
         "understemmed: {:,} of {}{} within a family".format(apart, counted(within, "pair"), percent(apart, within)),
         "overstemmed:  {:,} of {}{} across families".format(joined, counted(across, "pair"), percent(joined, across)),
@@ -128,7 +128,7 @@ def happened(row: Any, text: str, places: Places) -> Line:
     if row.kind == "more":
         return "..", "{:,} more events".format(int(row.count)), ""
     if row.kind in ("stem", "refused"):
-        return row.kind, named(row[1]) or "(empty)", ""
+        return row.kind, quoted(row[1]), ""
     if row.kind in ("search", "none"):
         return row.name, "searches among " + row.k if row.kind == "search" else "among %s takes none" % row.k, ""
     what = "begins" if row.kind == "call" else "is true" if row.signal == "t" else "is false"
@@ -161,7 +161,7 @@ def why(word: str, events: Sequence[Any], figures: Sequence[Any], places: Places
             name = calls[-1].name if row.kind == "refused" and calls else ""
             place = " (%s)" % places.of(name) if name and places.of(name) else ""
             where = " in %s%s" % (name, place) if name else ""
-            shown.append((row.kind, "%s%s   %s" % (named(row[1]) or "(empty)", where, values(figures, row[:2] == ("refused", "Steps"))), ""))
+            shown.append((row.kind, "%s%s   %s" % (quoted(row[1]), where, values(figures, row[:2] == ("refused", "Steps"))), ""))
         if calls:
             calls[-1].note(row)
     lines = []

@@ -11,8 +11,9 @@ from .keys import Broken, Editor, Hangup
 
 # A terminal that does not tell its size, and the least that is taken as one; how many lines are written before it is looked whether Ctrl-C came.
 USUAL, LEAST, PART = (80, 24), (12, 4), 200
-# How less is run if its own variables say nothing else: it says how one goes on and back, and writes no file for a command that is typed there.
-LESS = {"LESS": "FRXPs?ethe end, q goes back:space shows more, q goes back.$", "LESSSECURE": "1"}
+# How less is run if its own variables say nothing else: it says how one goes on and back, writes no file for a command that is typed there,
+# and shows UTF-8 in each locale.
+LESS = {"LESS": "FRXPs?ethe end, q goes back:space shows more, q goes back.$", "LESSSECURE": "1", "LESSCHARSET": "utf-8"}
 
 
 class Screen:
@@ -35,7 +36,9 @@ class Screen:
         """Writes lines; those of a text are not broken. A report may go to the pager; so many figures at its end come after that."""
         shown = list(map(layout.named, lines)) if is_text else self.broken(lines)
         figures = self.broken(lines[len(lines) - last :])
-        is_paged = is_report and self.has_pager and not self.editor.is_above and len(shown) >= self.size().lines
+        # (keys that are there already are for the prompt, and a pager would take them)
+        has_keys = self.editor.is_above or self.editor.pending or self.editor.has_key()
+        is_paged = is_report and self.has_pager and len(shown) >= self.size().lines and not has_keys
         if is_paged and self.page(shown[: len(shown) - len(figures)]):
             shown, is_report = figures, False
         if self.has_colour and not is_text:

@@ -207,14 +207,15 @@ class Terminal(Desk):
         """Sets the mark, also by stems of fewer words: they are of the first ones, and the others count as they are."""
         stems, outcomes, line = kept.read_lines(path), self.bench.outcomes(), ("mark " + path).rstrip()
         new, whole, said = outcomes[len(stems) :] if stems else [], path, ""
+        sizes = words.lines_and_words(path, len(outcomes))
         others = sum(stem != encoded(row.stem) for stem, row in zip(stems, outcomes))
-        doubt = "Most lines of %s are other stems. It needs the stems alone, one on a line, in the order of the words: the same line again takes it." % short(path)
+        doubt = sizes + ". " if len(stems) != len(outcomes) else ""
+        doubt += "Most lines of %s are other stems. It needs the stems alone, one on a line, in the order of the words: the same line again takes it." % short(path)
         if not self.is_sure(line, doubt if 2 * others > len(stems) <= len(outcomes) else ""):
             return
         if new and all(row.kind == "stem" for row in new):
             whole = self.bench.kept.keep("stems", b"\n".join([*stems, *(encoded(row.stem) for row in new)]))
-            sizes = short(path), counted(len(stems), "line"), counted(len(outcomes), "word")
-            said = "%s has %s, and there are %s: the mark has the others as they are now." % sizes
+            said = sizes + ": the mark has the others as they are now."
         if self.is_done(self.bench.ask(("mark " + whole).rstrip()), line):
             self.screen.say(said, layout.figures(self.bench.changes) if path else "The mark is set: changes are counted from here.")
 

@@ -46,6 +46,7 @@ MAY_NOT: Dict[str, str] = {
     "gone?": "{path} is not there any more (deleted or renamed). Nothing was written: save {path} again writes it anew.",
     "no folder": "{path} cannot be written: there is no folder {folder}.",
     "folder": "{path} cannot be written: it is a folder. Name a file in it.",
+    "pipe": "{path} cannot be written: it is no regular file. {Other}.",
     "closed": "{path} cannot be written: you may not write there. {Other}.",
     "full": "{path} cannot be written: {room}.",
     "full, there": "{path} cannot be written: {room}. It has its former text.",
@@ -134,9 +135,8 @@ def no_class(line: str, bench: Stage) -> str:
     return ("No word has the stem %s. " + how) % (in_quotes(stem), short(stem)) if stem else "stem needs a stem: stem STEM. No word has the empty one."
 
 
-def other_lines(line: str, bench: Stage) -> str:
-    path, size = file_of(line, bench), counted(len(bench.outcomes()), "word")
-    return "%s has %s, and there are %s: it needs a line for each word. The mark stays." % (short(path), counted(len(read_lines(path)), "line"), size)
+def lines_and_words(path: str, count: int) -> str:
+    return "%s has %s, and there are %s" % (short(path), counted(len(read_lines(path)), "line"), counted(count, "word"))
 
 
 def no_stem(_: str, bench: Stage) -> str:
@@ -264,7 +264,7 @@ def unreadable(path: str) -> str:
         # (a pipe that nobody writes to is not waited for)
         with os.fdopen(os.open(path, os.O_RDONLY | os.O_NONBLOCK), "rb") as file:
             file.read(1)
-        return "but now it can be. Try again."
+        return "but now it can be. Try again." if os.path.isfile(path) else "it is no regular file."
     except (OSError, ValueError) as why:
         code, (folder, name) = getattr(why, "errno", errno.ENOENT), os.path.split(path)
         others = os.listdir(folder or ".") if code == errno.ENOENT and os.path.isdir(folder or ".") else []
@@ -314,5 +314,6 @@ def may_not(why: str, command: str, path: str, then: str = "") -> str:
 SPECIAL: Dict[int, Callable[[str, Stage], str]] = {
     54: lambda _, bench: SENTENCES[54] + " remove WORD takes an added word out." * bool(getattr(bench, "added", [])),
     75: lambda line, bench: "%s is not UTF-8. %s" % (short(file_of(line, bench)), converting(file_of(line, bench))),
-    41: absent, 45: no_name, 46: amongs_of, 52: unknown, 53: no_name, 57: bad_file, 59: no_class, 67: no_stem, 74: other_lines,
+    74: lambda line, bench: lines_and_words(file_of(line, bench), len(bench.outcomes())) + ": it needs a line for each word. The mark stays.",
+    41: absent, 45: no_name, 46: amongs_of, 52: unknown, 53: no_name, 57: bad_file, 59: no_class, 67: no_stem,
 }

@@ -34,7 +34,10 @@ local function show(number, script, title, lines)
   report.shown, report.script = number, script
   local window = report_window()
   vim.api.nvim_buf_set_lines(report.buffer, 0, -1, false, lines)
+  -- (of a window that is as high as the editor the command line would take what is left)
+  local rows = vim.o.cmdheight
   vim.api.nvim_win_set_height(window, math.min(math.max(#lines, 1), math.max(math.floor(vim.o.lines / 3), 3)))
+  vim.o.cmdheight = rows
   vim.api.nvim_win_set_option(window, 'winfixheight', true)
   vim.api.nvim_win_set_option(window, 'statusline', (title:gsub('%%', '%%%%')))
   vim.api.nvim_win_set_cursor(window, { 1, 0 })

@@ -1,4 +1,4 @@
-"""Editors that are installed, without a screen: Neovim, and Emacs with eglot; and the Vim syntax in Vim."""
+"""Editors that are installed, without a screen: Neovim, and Emacs with eglot; the Vim syntax in Vim, and its indentation in both."""
 import os
 import shutil
 import subprocess
@@ -11,6 +11,42 @@ from .kit import TOP, needs_tokens
 
 HERE = os.path.join(os.path.dirname(os.path.abspath(__file__)), "headless")
 SECONDS = 300
+# By editor how it runs a script of its commands. A text as it is typed line by line without blanks before it.
+VIM = {"nvim": ["nvim", "--headless", "-u", "NONE", "-S"], "vim": ["vim", "-u", "NONE", "-N", "-e", "-s", "-S"]}
+INDENTED = """externals ( stem )
+routines (
+    a b
+)
+backwardmode (
+    define a as (
+        [substring] among ( // (
+            '(' ')'
+                (delete)
+            's' ( try (
+                delete
+            )
+            )
+        )
+    )
+)
+define b as
+    repeat (
+        next
+    )
+define v 'a' +
+    'b'
+/* it is
+     the last one ( */
+define stem as (
+    do a
+)
+"""
+
+
+def in_vim(name: str, room: str, *commands: str) -> None:
+    """Has Vim, or Neovim, run commands where it knows Snowball, and end."""
+    write(os.path.join(room, "ask.vim"), "\n".join(["set runtimepath+=%s/client/editors/vim" % TOP, "filetype plugin indent on", "syntax on", *commands, "qall!", ""]))
+    subprocess.run([*VIM[name], "ask.vim"], stdin=subprocess.DEVNULL, capture_output=True, cwd=room, timeout=SECONDS, env={**os.environ, "ROOM": room})
 
 
 def has_eglot() -> bool:
@@ -39,7 +75,7 @@ class Editors(Case):
         self.assertIn("nowhere is not declared", seen.pop("fault"))
         wanted = {
             "two": "true", "fixes": "Remove 'sses'", "another": "  Step_1a  among 1 takes 'ies'   porter.sbl:29:13", "windows": "2, in the script: true",
-            "from the report": "2", "in the report": "nofile", "syntax": "snowball", "lenses": "true", "corrected": "true", "changed": "true", "definition": "    define Step_1a as (",
+            "from the report": "2", "an only window": "1", "in the report": "nofile", "syntax": "snowball", "lenses": "true", "corrected": "true", "changed": "true", "definition": "    define Step_1a as (",
             "why": "  Step_1a  among 1 takes 'sses'   porter.sbl:28:13", "rename": "true", "words": "-> care (was caress)",
         }
         self.assertEqual(seen, wanted)
@@ -59,12 +95,24 @@ class Editors(Case):
         """The groups of the syntax at some places of the example."""
         text = example("porter.sbl").split("\n")
         places = {"externals": "snowballKind", "define Step_1a": "snowballItem", "'sses'": "snowballLiteral", "among": "snowballControl"}
-        asked = ""
+        asked = []
         for what in places:
             line = next(number for number, line in enumerate(text, 1) if what in line and not line.lstrip().startswith(("//", "/*")))
-            asked += "call writefile([synIDattr(synID(%d, %d, 0), 'name')], $ROOM . '/groups', 'a')\n" % (line, text[line - 1].index(what) + 1)
+            asked.append("call writefile([synIDattr(synID(%d, %d, 0), 'name')], $ROOM . '/groups', 'a')" % (line, text[line - 1].index(what) + 1))
         room = self.room(porter_sbl=example("porter.sbl"))
-        write(os.path.join(room, "ask.vim"), "set runtimepath+=%s/client/editors/vim\nfiletype plugin on\nsyntax on\nedit porter.sbl\n%squit!\n" % (TOP, asked))
-        subprocess.run(["vim", "-u", "NONE", "-N", "-e", "-s", "-S", "ask.vim"], stdin=subprocess.DEVNULL, capture_output=True, cwd=room, timeout=SECONDS, env={**os.environ, "ROOM": room})
+        in_vim("vim", room, "edit porter.sbl", *asked)
         with open(os.path.join(room, "groups"), encoding="utf-8") as file:
             self.assertEqual(file.read().split(), list(places.values()))
+
+    @unittest.skipUnless(shutil.which("nvim") or shutil.which("vim"), "Neovim and Vim are not installed")
+    def test_indentation(self):
+        """Lines are indented while one types, and all at once."""
+        # (in a comment the editor leaves them as they are)
+        flat = [line if "the last" in line else line.lstrip() for line in INDENTED.splitlines()]
+        typed = 'execute "normal! i%s"' % "\\<CR>".join(flat)
+        for name in filter(shutil.which, VIM):
+            room = self.room(flat_sbl="\n".join(flat) + "\n")
+            in_vim(name, room, "edit typed.sbl", typed, "write", "edit flat.sbl", "normal! gg=G", "write")
+            for file in ("typed.sbl", "flat.sbl"):
+                with open(os.path.join(room, file), encoding="utf-8") as found:
+                    self.assertEqual(found.read(), INDENTED, (name, file))

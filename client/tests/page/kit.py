@@ -4,6 +4,7 @@ import os
 import socket
 import threading
 import time
+import unittest
 from typing import Any, Dict, List, Optional, Union
 
 from voltizug.bench import Bench
@@ -12,6 +13,7 @@ from voltizug.page.live import Live
 from voltizug.page.serve import Server
 
 from ..kit import PROGRAM, Case
+from .browser import CHROMIUM, Browser, Tab
 
 SCRIPT = "externals ( stem )\nroutines ( r )\nbackwardmode (\n  define r as ( [substring] among ( 'ed' 's' (delete) ) )\n)\ndefine stem as backwards ( do r )\n"
 OTHER = SCRIPT.replace("'s'", "'ing'")
@@ -50,6 +52,32 @@ class Page(Case):
         lacking = [line for line in commands if live.bench.known(line) is None]
         if lacking:
             self.skipTest("the program does not know %s" % ", ".join(lacking))
+
+
+@unittest.skipUnless(CHROMIUM, "chromium is not installed")
+class BrowserPage(Page):
+    """A page in chromium, which is started once for the tests of a class."""
+
+    @classmethod
+    def setUpClass(cls) -> None:
+        cls.browser = Browser()
+
+    @classmethod
+    def tearDownClass(cls) -> None:
+        cls.browser.close()
+
+    def show(self, script: Union[str, bytes] = SCRIPT, **given: Any) -> Tab:
+        """Shows a page that is watched, in a first tab."""
+        self.live = self.page(script, **given)
+        self.watch(self.live)
+        self.server = self.serve(self.live)
+        return self.tab()
+
+    def tab(self) -> Tab:
+        tab = self.browser.open(self.server.address())
+        self.addCleanup(self.browser.ask, "Target.closeTarget", targetId=tab.target)
+        tab.wait("typeof S !== 'undefined' && S.words.length && S.st.counts !== undefined && S.st.warnings !== undefined")
+        return tab
 
 
 class View:

@@ -5,13 +5,12 @@ import re
 import subprocess
 import sys
 import threading
-import unittest
 
 from voltizug.kept import read_file
 
 from ..kit import CLIENT, LOOP, PROGRAM, example, write
-from .browser import CHROMIUM, Browser, Tab
-from .kit import OTHER, SCRIPT, WORDS, Page
+from .browser import Tab
+from .kit import OTHER, SCRIPT, WORDS, BrowserPage
 
 FAMILIES = "walks walked walking\ntalk\n"
 # The least contrast of text and its ground, over all that is shown.
@@ -30,27 +29,9 @@ CONTRAST = """(() => {
 })()"""
 
 
-@unittest.skipUnless(CHROMIUM, "chromium is not installed")
-class InBrowser(Page):
-    @classmethod
-    def setUpClass(cls) -> None:
-        cls.browser = Browser()
-
-    @classmethod
-    def tearDownClass(cls) -> None:
-        cls.browser.close()
-
+class InBrowser(BrowserPage):
     def open(self, **files) -> Tab:
-        self.live = self.page(families="my.families", my_families=FAMILIES, **files)
-        self.watch(self.live)
-        self.server = self.serve(self.live)
-        return self.tab()
-
-    def tab(self) -> Tab:
-        tab = self.browser.open(self.server.address())
-        self.addCleanup(self.browser.ask, "Target.closeTarget", targetId=tab.target)
-        tab.wait("typeof S !== 'undefined' && S.words.length && S.st.counts !== undefined && S.st.warnings !== undefined")
-        return tab
+        return self.show(families="my.families", my_families=FAMILIES, **files)
 
     def save(self, text: str) -> None:
         write(self.live.bench.script, text)

@@ -56,7 +56,7 @@ class Commands(Case):
         said = page.stderr.read().decode().splitlines()[-1]
         self.assertEqual(said, "snowbench: what you tried or added is in no file, and is kept. Start ./snowbench work my.sbl 'my words', and type rescue: it is there again.")
         terminal = self.terminal(room, "my.sbl", "my words")
-        terminal.got()
+        self.assertIn("in no file when work or the page ended (a part of the script and 1 added word): rescue brings them back", " ".join(terminal.got().split()))
         terminal.enter("rescue")
         self.assertIn("'ing'", terminal.enter("show r"))
         self.assertIn("walker", terminal.enter("find walker"))
@@ -66,7 +66,7 @@ class Commands(Case):
         taken = socket.create_server(("127.0.0.1", 0))
         self.addCleanup(taken.close)
         port = str(taken.getsockname()[1])
-        cases = {("none.sbl",): "none.sbl is no file", ("my.sbl", "none"): "none is no file", ("--port", "70000", "my.sbl"): "0 to 65535", ("--port", port, "my.sbl"): "cannot be had", (): "usage: snowbench page [--port N]"}
+        cases = {("none.sbl",): "none.sbl cannot be read: there is no such file", ("my.sbl", "my.sb"): "my.sb cannot be read: there is no such file. Did you mean my.sbl?", ("--port", "70000", "my.sbl"): "0 to 65535", ("--port", port, "my.sbl"): "cannot be had", (): "usage: snowbench page [--port N]"}
         for words, said in cases.items():
             page = self.begin(room, *words)
             self.assertIn(said, page.stderr.read().decode())

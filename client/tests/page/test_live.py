@@ -1,7 +1,9 @@
 """What the page shows: edits, files, names of edits, words, and that a state made of news is the state of a fresh page."""
 import os
 import random
+import threading
 import time
+from unittest import mock
 
 from voltizug.kept import read_file
 from voltizug.page import ink
@@ -190,6 +192,27 @@ class Edits(Page):
             until(lambda: live.part("busy") is None, 120)
             self.assertIn("broken off", live.part("notice"))
         self.assertEqual(live.word("walks")["outcome"][1:], "walk" if live.part("text") == SCRIPT else live.word("walks")["outcome"][1:])
+
+    def test_what_is_broken_off_after_an_edit(self):
+        """The edit was accepted, and stays."""
+        with mock.patch.dict(os.environ, SLOW="stems:1"):
+            live = self.page(program=FAKE)
+            process, live.bench.on_accepted = live.bench.program.process, lambda: (threading.Timer(0.3, live.bench.program.break_off).start(), live.show_outcomes())
+            live.take_trial(OTHER)
+        self.assertEqual((live.part("text"), live.part("notice"), live.part("isTrial")), (OTHER, "", True))
+        self.assertEqual((live.part("history")["done"], live.bench.program.process), (["trial"], process))
+
+    def test_words_that_are_added(self):
+        """Those that are there are passed over, and what was added is shown also if another one is refused."""
+        live = self.page()
+        live.add(["walker", "my talk", "talk", "talks", "walker"])
+        self.assertEqual(live.part("notice"), 'In the vocabulary already: talk. 3 words are added. A blank is a part of the word: "my talk".')
+        self.assertEqual((live.outcomes.words[4:], live.part("added")), (["walker", "my talk", "talks"], 3))
+        self.assertRaisesRegex(Refused, "255 characters", live.add, ["one", "x" * 256, "two"])
+        self.assertIn("255 characters", live.part("notice"))
+        self.assertEqual((live.outcomes.words[7:], live.part("added")), (["one"], 4))
+        live.add(["more"])
+        self.assertEqual(live.part("notice"), "")
 
     def test_saves_in_a_row(self):
         live = self.page()

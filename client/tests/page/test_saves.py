@@ -10,8 +10,8 @@ from voltizug.page.live import Live, Refused
 from voltizug.program import BROKEN_OFF, DONE, Reply
 
 from ..kit import write
-from .browser import CHROMIUM, Browser, Tab
-from .kit import OTHER, SCRIPT, Page, settle
+from .browser import Tab
+from .kit import OTHER, SCRIPT, BrowserPage, Page, settle
 
 TYPED, THEIRS, FAULTY = SCRIPT + "// mine\n", "// theirs\n" + SCRIPT, SCRIPT.replace("do r", "do rr")
 
@@ -81,6 +81,7 @@ class Saves(Page):
         live = self.page()
         self.assertEqual(live.save(False, FAULTY, live.part("base")), {})
         self.assertEqual((live.part("fault")["origin"], live.part("fault")["base"]), ("trial", live.part("file")))
+        self.assertEqual(live.part("notice"), "Nothing was written: the text has a fault.")
         self.assert_file(live, SCRIPT)
 
     def test_a_trial_that_differs_in_comments_alone(self):
@@ -182,28 +183,7 @@ class Merged(unittest.TestCase):
                 self.assertEqual((found, places), ("\n".join(sides[0] if sides[1] == base else sides[1]), 0))
 
 
-@unittest.skipUnless(CHROMIUM, "chromium is not installed")
-class SavesInBrowser(Page):
-    @classmethod
-    def setUpClass(cls) -> None:
-        cls.browser = Browser()
-
-    @classmethod
-    def tearDownClass(cls) -> None:
-        cls.browser.close()
-
-    def open(self, script: str = SCRIPT) -> Tab:
-        self.live = self.page(script)
-        self.watch(self.live)
-        self.server = self.serve(self.live)
-        return self.tab()
-
-    def tab(self) -> Tab:
-        tab = self.browser.open(self.server.address())
-        self.addCleanup(self.browser.ask, "Target.closeTarget", targetId=tab.target)
-        tab.wait("typeof S !== 'undefined' && S.words.length && S.st.counts !== undefined && S.st.warnings !== undefined")
-        return tab
-
+class SavesInBrowser(BrowserPage):
     def type(self, tab: Tab, text: str = "// mine\n") -> None:
         tab.run("S.editing || edit(true)")
         tab.run("$('editor').setSelectionRange(%d, %d)" % (len(SCRIPT), len(SCRIPT)))
@@ -221,7 +201,7 @@ class SavesInBrowser(Page):
 
     def test_a_typed_text(self):
         for theirs in (THEIRS, SCRIPT.replace("'ed'", "'ked'")):
-            tab = self.open()
+            tab = self.show()
             self.type(tab)
             self.assertIn("typed, not tried; the results are of the file", self.texts(tab)[0])
             self.save_outside(theirs)
@@ -239,9 +219,81 @@ class SavesInBrowser(Page):
             self.assertEqual((self.file(), self.texts(tab)[1]), (theirs + "// mine\n", ""))
             self.assertIn("as in the file", self.texts(tab)[0])
 
+    def test_a_typed_text_that_is_left(self):
+        """The first click says what the second one does, and what that dropped is there again at a click."""
+        tab = self.show()
+        self.type(tab)
+        for _ in range(2):
+            tab.press("Escape")
+            tab.wait("$('bar').innerText.includes('Leave drops them')")
+        tab.run("$('editor').setSelectionRange(0, 0)")
+        tab.type("// more\n")
+        tab.run("$('edit').click()")
+        self.assertIn("Leave again drops them", self.texts(tab)[2])
+        self.assertTrue(tab.run("S.editing && S.dirty"))
+        tab.run("$('edit').click()")
+        self.assertEqual((tab.run("S.editing"), self.texts(tab)[2].split("\n")[0]), (False, "What you typed is dropped."))
+        tab.run("$('bar').querySelector('button').click()")
+        tab.wait("S.editing && S.dirty && $('editor').value === %r" % ("// more\n" + TYPED))
+        tab.press("z", modifiers=2)
+        tab.wait("$('editor').value === %r" % SCRIPT)
+
+    def test_a_typed_text_and_the_file_again(self):
+        tab = self.show()
+        self.type(tab)
+        tab.run("$('reload').click()")
+        tab.wait("$('bar').innerText.includes('the same click again drops them')")
+        self.assertTrue(tab.run("S.dirty && $('editor').value === %r" % TYPED))
+        tab.run("$('reload').click()")
+        tab.wait("!S.dirty && $('editor').value === %r" % SCRIPT)
+
+    def test_a_save_from_elsewhere(self):
+        """Also of a text with a fault, of which is said that nothing was written."""
+        tab = self.show()
+        self.type(tab)
+        tab.press("Enter", modifiers=2)
+        tab.wait("!S.dirty && S.st.isTrial")
+        tab.run("$('change-list').focus()")
+        tab.press("s", modifiers=2)
+        tab.wait("$('bar').innerText.includes('Saved.') && !S.saving")
+        self.assertEqual(self.file(), TYPED)
+        tab.run("$('editor').setSelectionRange(0, 0)")
+        tab.type("!")
+        tab.run("$('change-list').focus()")
+        tab.press("s", modifiers=2)
+        tab.wait("$('bar').innerText.includes('Nothing was written: the text has a fault.') && !S.saving")
+        self.assertEqual(self.file(), TYPED)
+
+    def test_what_was_taken_in_is_taken_back(self):
+        """Ctrl+Z brings back what was typed, step by step, and a save does not overwrite the file then."""
+        for at, both in ((len(SCRIPT), THEIRS + "// mine\n"), (0, "// theirs\n// mine\n" + SCRIPT)):
+            tab = self.show()
+            tab.run("S.editing || edit(true)")
+            tab.run("$('editor').setSelectionRange(%d, %d)" % (at, at))
+            tab.type("// mine\n")
+            mine = tab.run("$('editor').value")
+            self.save_outside(THEIRS)
+            tab.wait("!$('outside').hidden && S.st.text === %r" % THEIRS)
+            tab.run("$('outside').querySelector('button').click()")
+            merged = tab.wait("$('outside').hidden && $('editor').value")
+            self.assertIn("// theirs", merged)
+            tab.press("z", modifiers=2)
+            tab.wait("$('editor').value === %r && !$('outside').hidden" % mine)
+            tab.press("s", modifiers=2)
+            tab.wait("!S.saving && $('bar').innerText.includes('Nothing was written')")
+            tab.press("z", modifiers=2)
+            tab.wait("$('editor').value === %r" % SCRIPT)
+            for text in (mine, merged):
+                tab.press("y", modifiers=2)
+                tab.wait("$('editor').value === %r" % text)
+            tab.wait("$('outside').hidden")
+            tab.press("s", modifiers=2)
+            tab.wait("$('bar').innerText.includes('Saved.') && !S.saving")
+            self.assertEqual(self.file(), merged)
+
     def test_a_trial_in_the_editor(self):
         """It stays there as the file replaces it, and nothing says that undo brings it back."""
-        tab = self.open()
+        tab = self.show()
         self.type(tab)
         tab.press("Enter", modifiers=2)
         tab.wait("!S.dirty && S.st.isTrial")
@@ -257,7 +309,7 @@ class SavesInBrowser(Page):
     def test_a_faulty_trial_in_the_editor(self):
         """It is in no step of undo, and stays in the editor whatever replaces it."""
         for replace, name in ((lambda tab: self.save_outside(THEIRS), "outside"), (lambda tab: tab.run("post('undo', { count: 1 })"), "undo")):
-            tab = self.open()
+            tab = self.show()
             tab.run("post('trial', { text: %r })" % OTHER)
             tab.wait("S.st.isTrial && S.st.history.done.length === 1")
             self.type(tab, "// mine\n !")
@@ -270,7 +322,7 @@ class SavesInBrowser(Page):
             self.assertEqual((tab.run("$('editor').value"), tab.run("!$('outside').hidden")), (text, name == "outside"))
 
     def test_a_trial_outside_the_editor(self):
-        tab = self.open()
+        tab = self.show()
         tab.run("post('trial', { text: %r })" % TYPED)
         tab.wait("S.st.isTrial")
         self.save_outside(THEIRS)
@@ -283,7 +335,7 @@ class SavesInBrowser(Page):
 
     def test_a_long_script(self):
         """Its changes are taken in at once."""
-        tab = self.open("// %s\n" % ("x" * 60) * 3000 + SCRIPT)
+        tab = self.show("// %s\n" % ("x" * 60) * 3000 + SCRIPT)
         tab.run("edit(true), $('editor').value += '// mine\\n', typed()")
         self.save_outside("// theirs\n" + self.file())
         tab.wait("!$('outside').hidden")
@@ -292,7 +344,7 @@ class SavesInBrowser(Page):
 
     def test_two_tabs(self):
         """What another page saves is outside, too."""
-        first = self.open()
+        first = self.show()
         second = self.tab()
         self.type(first)
         self.type(second, "// second\n")
@@ -303,7 +355,7 @@ class SavesInBrowser(Page):
         self.assertEqual((self.file(), self.texts(second)[1]), (SCRIPT + "// second\n", ""))
 
     def test_saves_one_after_another(self):
-        tab = self.open()
+        tab = self.show()
         for i in range(5):
             self.type(tab, "// %d\n" % i)
             tab.press("s", modifiers=2)

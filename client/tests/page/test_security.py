@@ -100,7 +100,7 @@ class Security(Page):
 
     def test_a_request_is_no_command(self):
         """What comes from a page is never more than one command of the program."""
-        for given in ({"words": ["a\nquit"]}, {"words": [""]}, {"words": ["x" * 256]}, {"words": ["walks"]}):
+        for given in ({"words": ["a\nquit"]}, {"words": [""]}, {"words": ["x" * 256]}):
             self.assertEqual(post(self.server, "add", **given).status, 409, given)
         self.assertEqual(request(self.server, path="word?word=a%0Aquit").status, 409)
         self.assertEqual(post(self.server, "limit", limit="5\nquit").status, 409)

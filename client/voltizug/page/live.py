@@ -12,7 +12,7 @@ from .. import loops, rows, words
 from ..bench import Bench
 from ..conditions import with_tests
 from ..kept import read_file, state_of
-from ..layout import named, short
+from ..layout import counted, in_words, named, short
 from ..lints import lints
 from ..places import BOM
 from ..program import BROKEN_OFF, DONE, ENDED, Reply
@@ -108,8 +108,9 @@ class Live:
     # Outcomes
 
     def show_outcomes(self) -> None:
-        """Shows the outcomes under the current script."""
-        reply, text = self.bench.program.ask(["stems"]), self.bench.program.text()
+        """Shows the outcomes under the current script. (An edit that was accepted is not broken off.)"""
+        reply, told = self.bench.program.ask_each([["stems"], ["text", "echo"]], has_grace=True)
+        text = self.bench.program.text(told)
         if reply.state != DONE or text is None:
             return
         with self.news:
@@ -372,6 +373,8 @@ class Live:
                 raise Refused("%s cannot be read, and was not overwritten." % short(bench.script))
             self.take_trial(text, base)
             if ink.shown_text(bench.program.now.text) != text.replace("\r\n", "\n"):
+                if self.part("fault"):
+                    self.publish(notice="Nothing was written: the text has a fault.")
                 return {}
             self.saves.check(is_sure, base, self.file_now())
             reply = bench.write("save", bench.script)
@@ -403,10 +406,22 @@ class Live:
         self.edit(["limit " + text], "limit")
 
     def add(self, new: Sequence[str]) -> None:
+        """Adds words. Those that are there already are passed over; if one is refused, those before it stay."""
         with self.asking():
-            for word in new:
-                self.ask("add " + word)
-            self.show_words()
+            known = set(self.outcomes.words)
+            there, new = [word for word in new if word in known], [word for word in dict.fromkeys(new) if word not in known]
+            blank, added = [words.in_quotes(word, True) for word in new if " " in word], counted(len(new), "word is", "words are") + " added."
+            said = "In the vocabulary already: %s. %s" % (in_words(there, "and", 5), added) if there else ""
+            said += " A blank is a part of the word: %s." % in_words(blank, "and", 5) if blank else ""
+            try:
+                for word in new:
+                    self.ask("add " + word)
+            except Refused as why:
+                said = str(why)
+                raise
+            finally:
+                self.show_words()
+                self.publish(notice=said.strip())
 
     def append(self) -> None:
         with self.turn:

@@ -5,7 +5,7 @@ const base = location.pathname.replace(/[^/]*$/, ''), ROW = 28, LINE = 20, TOP =
 const VIEWS = ['changes', 'classes', 'word', 'rule', 'families'];
 const S = {
   st: {}, words: [], out: [], marked: [], classes: null, changed: null, view: 'changes', kind: 'changed', fkind: 'under', sort: 'size', desc: true, pick: null, sel: null,
-  word: null, rule: null, fam: null, editing: false, dirty: false, base: null, saving: false, dropping: false, live: null, lines: [], ruleAt: new Map(), counts: new Map(), typed: null, at: 0, idle: 0, never: 0, oops: [], drawn: new Map(),
+  word: null, rule: null, fam: null, editing: false, dirty: false, base: null, saving: false, dropping: false, live: null, turns: [], leaving: null, lines: [], ruleAt: new Map(), counts: new Map(), typed: null, at: 0, idle: 0, never: 0, oops: [], drawn: new Map(),
 };
 const numbers = new Intl.NumberFormat('en-US'), number = n => numbers.format(n);
 const count = (n, one, many) => `${number(n)} ${n === 1 ? one : many || one + 's'}`;
@@ -450,11 +450,16 @@ async function merge() {
   editText(reply.text, reply.base);
   say(reply.both ? `${count(reply.both, 'place')} of ${name} and of your text differ: there the lines of ${name} are comments. Correct that, and save.` : `The changes of ${name} are in the text now.`, false);
 }
-// Shows a text in the editor that is not tried.
+// Shows a text in the editor that is not tried. It is an edit there: Ctrl+Z brings back what was typed, with the base that this had.
 function editText(text, base) {
   if (!S.editing) edit(true);
-  $('editor').value = text;
-  $('editor').focus({ preventScroll: true });
+  const editor = $('editor'), old = editor.value, same = common(text, old);
+  // (an edit that only inserts would be one with what was typed there before: so it has a line more)
+  if (same.head + same.tail === old.length) same.tail -= (old.indexOf('\n', old.length - same.tail) + 1 || old.length) - (old.length - same.tail);
+  S.turns.push([old, S.base], [text, base]);
+  editor.focus({ preventScroll: true });
+  editor.setSelectionRange(same.head, old.length - same.tail);
+  if (!document.execCommand('insertText', false, text.slice(same.head, text.length - same.tail)) || editor.value !== text) editor.value = text;
   Object.assign(S, { base });
   typed();
 }
@@ -467,11 +472,27 @@ function edit(on) {
   S.editing = on;
   document.body.classList.toggle('editing', on);
   if (on) setEditor();
+  Object.assign(S, { turns: [], leaving: null });
   $('editor').hidden = !on;
   S.dirty = false;
   layout();
   showEditButtons();
   if (on) $('editor').focus({ preventScroll: true });
+}
+// Whether a button may drop what is in the editor: if it was tried, or at the second click.
+function mayDrop(id, how, isClick) {
+  const asked = id + $('editor').value, is_sure = !isTyped() || isClick && S.leaving === asked;
+  S.leaving = is_sure ? null : asked;
+  if (!is_sure) say(`The text has changes that were not tried: Ctrl+Enter tries them, ${how} drops them.`, false);
+  return is_sure;
+}
+// Leaves the editor. What was dropped is there again if that was a mistake.
+function leave(isClick) {
+  const text = $('editor').value, { base, dirty } = S;
+  if (!mayDrop('edit', isClick ? 'Leave again' : 'Leave', isClick)) return;
+  edit(false);
+  $('bar').hidden = true;
+  if (dirty) say('What you typed is dropped.', false, ['Edit it again', () => editText(text, base)]);
 }
 function showEditButtons() {
   const st = S.st, is_there = st.text !== undefined;
@@ -488,8 +509,9 @@ function showEditButtons() {
   showStatus();
 }
 let pausing = 0, drawing = 0;
-function typed() {
+function typed(event) {
   S.dirty = true;
+  if (/^history/.test(event?.inputType)) for (const [text, base] of S.turns) if (text === $('editor').value) S.base = base;
   cancelAnimationFrame(drawing);
   drawing = requestAnimationFrame(() => { layout(); showEditButtons(); });
   clearTimeout(pausing);
@@ -806,14 +828,13 @@ function setUpScript() {
   $('editor').addEventListener('input', typed);
   $('editor').addEventListener('keydown', event => {
     if (event.key === 'Enter' && (event.ctrlKey || event.metaKey)) { event.preventDefault(); tryIt(); }
-    else if (event.key === 's' && (event.ctrlKey || event.metaKey)) { event.preventDefault(); save(); }
-    else if (event.key === 'Escape') { if (!S.dirty) edit(false); else say('The text has changes that were not tried: Ctrl+Enter tries them, Leave drops them.', false); }
+    else if (event.key === 'Escape') leave(false);
   });
-  for (const [id, act] of Object.entries({ try: tryIt, save, drop, edit: () => edit(!S.editing) })) $(id).addEventListener('click', act);
+  for (const [id, act] of Object.entries({ try: tryIt, save, drop, edit: () => S.editing ? leave(true) : edit(true) })) $(id).addEventListener('click', act);
 }
 function setUpTop() {
   const acts = {
-    undo: () => post('undo', { count: 1 }), redo: () => post('redo', { count: 1 }), mark: () => post('mark'), append: () => post('append'), reload: drop, 'mark-stems': () => post('mark', { stems: true }),
+    undo: () => post('undo', { count: 1 }), redo: () => post('redo', { count: 1 }), mark: () => post('mark'), append: () => post('append'), reload: () => { if (mayDrop('reload', 'the same click again', true)) drop(); }, 'mark-stems': () => post('mark', { stems: true }),
     keys: () => $('help').showModal(), 'warnings-button': () => showWarnings($('warnings').hidden),
   };
   for (const [id, act] of Object.entries(acts)) $(id).addEventListener('click', act);
@@ -836,6 +857,7 @@ function setUpTop() {
 }
 function press(event) {
   if (event.key === 'Escape') { for (const menu of document.querySelectorAll('details.menu[open]')) { menu.open = false; menu.querySelector('summary').focus(); } }
+  if (event.key === 's' && (event.ctrlKey || event.metaKey) && !$('save').hidden) { event.preventDefault(); save(); }
   if (event.ctrlKey || event.metaKey || event.altKey || event.target.closest('input, textarea, dialog')) return;
   const key = event.key, view = VIEWS[key - 1], acts = { u: 'undo', r: 'redo', m: 'mark', d: 'theme', '?': 'keys', e: 'edit', n: 'next-never' };
   if (view) { const tab = $('tab-' + view); if (!tab.hidden) { tab.click(); tab.focus(); } }

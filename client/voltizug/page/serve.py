@@ -20,7 +20,7 @@ from ..bench import Bench
 from ..kept import Kept, home
 from ..layout import named
 from ..options import CALLED, usual_program
-from ..words import Refused, in_shell
+from ..words import Refused, in_shell, unreadable
 from .live import Live
 
 HERE = os.path.dirname(os.path.realpath(__file__))
@@ -219,8 +219,10 @@ def show_in_browser(address: str, room: str) -> None:
 def fault_of(given: argparse.Namespace) -> str:
     """Returns what is wrong with the command line."""
     for path in filter(None, (given.script, given.words, given.stems, given.families)):
-        if not os.path.isfile(path) or "\n" in path:
-            return "%s is no file that can be read" % named(path)
+        if not os.path.isfile(path):
+            return "%s cannot be read: %s" % (named(path), unreadable(path))
+        if "\n" in path:
+            return "%s has a line feed in its name" % named(path)
     return "" if 0 <= (given.port or 0) <= 65535 else "--port takes a number from 0 to 65535"
 
 
