@@ -111,12 +111,23 @@ pub(crate) fn push_operator(
     push_advice(shown, sentence.as_str())
 }
 
+/// Returns whether `<=` is at the place, and a literal after it.
+fn is_arrow_meant(site: Site<'_>) -> bool {
+    match site.next_kinds() {
+        (Some(next), _) => site.operator() == Some(Sign::AtMost) && next == Kind::Literal,
+        _ => false,
+    }
+}
+
 /// Appends what comes in parentheses of commands.
 pub(crate) fn push_rows(
     shown: &mut String,
     site: Site<'_>,
     outlook: &Outlook,
 ) -> Result<bool, AllocError> {
+    if is_arrow_meant(site) {
+        return push_advice(shown, "Did you mean <-?");
+    }
     if site.operator().is_some() {
         return Ok(false);
     }

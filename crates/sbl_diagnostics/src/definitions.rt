@@ -122,6 +122,27 @@ pub(crate) fn is_at_terms(place: Place<'_>) -> bool {
     }
 }
 
+/// Returns whether a `backwards` is in the parentheses that are open at the end of these tokens, so that it runs a command before it.
+fn follows_backwards(tokens: &[Token<'_>]) -> bool {
+    let mut depth: usize = 0;
+    let mut found = None;
+    for token in tokens {
+        match token.kind {
+            Kind::Sign(Sign::Open) => depth = depth.saturating_add(1),
+            Kind::Sign(Sign::Close) => {
+                if found == Some(depth) {
+                    found = None;
+                }
+                depth = depth.saturating_sub(1);
+            }
+            Kind::Word(Word::Backwards) => found = Some(depth),
+            Kind::Word(Word::Define) => found = None,
+            _ => {}
+        }
+    }
+    found == Some(depth)
+}
+
 /// Appends that a name is used in another mode than it is defined in, and what to do.
 pub(crate) fn push_wrong_mode(shown: &mut String, place: Place<'_>) -> Result<(), AllocError> {
     let Place { faulty, spot } = place;
@@ -137,6 +158,9 @@ pub(crate) fn push_wrong_mode(shown: &mut String, place: Place<'_>) -> Result<()
             )?;
             push_cut(shown, spot.token)
         }
+        Some(Definition::Backward) if follows_backwards(&before) => shown.push_str(
+            " is defined in backward mode, but used in forward mode: the backwards before this runs one command. To run several, write backwards ( .. )",
+        ),
         Some(Definition::Backward) => shown.push_str(
             " is defined in backward mode, but used in forward mode: write backwards before it. If it is to run forwards, move its define out of backwardmode",
         ),
