@@ -2,7 +2,7 @@
 import re
 from typing import Any, List, Optional, Sequence, Tuple
 
-from .language import ITEMS, RESERVED
+from .language import ITEMS
 from .layout import named, short
 from .near import meant, near
 from .places import BOM, line_and_column
@@ -53,19 +53,13 @@ def advice(line: str, source: str, carets: str, text: bytes) -> str:
         return ". Look for a missing quote before it, too"
     if " => is of Snowball" in line and re.search(r"\$\s*\w+\s*=>", source):
         return ". Did you mean >=?"
-    if line.endswith(": <= cannot follow what is before it") and re.search(r"<=\s*'", source):
-        return ". Did you mean <-?"
-    if " has no closing quote" in line and re.search(r"\w''|''\w", source):
-        signs = re.search(r"\bstringescapes\s+(\S)\s*(\S)", text.decode("utf-8", "replace"))
-        return ". A quote in a literal is %s'%s" % signs.groups() if signs else ". A quote in a literal is {'}, with stringescapes {} above it"
     if line.endswith(" the name that is inserted here") and "^" in carets:
         name = source[carets.index("^") + 1 :].partition("}")[0]
         names = re.findall(r"\bstringdef\s+(\S+)", text.decode("utf-8", "replace"))
         return "." * bool(near(name, names)) + meant(name, names)
     unknown = re.search(r": (\w+) is not declared\. Declare it\b.*, or use another name\.\Z", line)
-    bare = re.search(r": (\w+) cannot follow what is before it\. An among has strings\b", line)
-    if unknown and re.search(r"(\[\s*|<-\s*|<\+\s*)%s\b" % unknown[1], source) or bare and bare[1] not in RESERVED:
-        return " If letters are meant: '%s'." % short((unknown or bare)[1])
+    if unknown and re.search(r"(\[\s*|<-\s*|<\+\s*)%s\b" % unknown[1], source):
+        return " If letters are meant: '%s'." % short(unknown[1])
     return "." + meant(word, ITEMS) if " can only be in a literal" in line and word not in ITEMS and meant(word, ITEMS) else ""
 
 

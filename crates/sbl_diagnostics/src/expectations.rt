@@ -179,6 +179,18 @@ fn push_required(
     }
 }
 
+/// Appends what an among has, and how letters are written, if a name is at the place.
+fn push_amongs(shown: &mut String, site: Site<'_>) -> Result<bool, AllocError> {
+    if site.spot.kind != Some(Kind::Name) {
+        return push_advice(shown, AMONGS);
+    }
+    let name = cut(site.faulty.alloc, site.spot.token)?;
+    push_text(
+        shown,
+        format!(in site.faulty.alloc; "{AMONGS} If letters are meant: '{name}'.")?,
+    )
+}
+
 /// Appends what comes in the construct that the place is in.
 fn push_inside(
     shown: &mut String,
@@ -190,7 +202,7 @@ fn push_inside(
     if outlook.offers(Symbol::Names) {
         push_names(shown, site)
     } else if outlook.offers(Symbol::Groups) || outlook.offers(Symbol::Entries) {
-        push_advice(shown, AMONGS)
+        push_amongs(shown, site)
     } else if outlook.offers(Symbol::Rows) {
         push_rows(shown, site, outlook)
     } else if outlook.offers(Symbol::Joiners) {

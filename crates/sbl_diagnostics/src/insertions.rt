@@ -77,7 +77,7 @@ pub(crate) fn push_insertion(shown: &mut String, place: Place<'_>) -> Result<(),
     let Place { faulty, spot } = place;
     let rest = str::from_utf8(faulty.text.get(spot.begin..).unwrap_or(&[])).unwrap_or("");
     let Some(inserts) = inserts_at(place) else {
-        return push_unclosed(shown, place);
+        return push_unclosed(shown, place, None);
     };
     let closing = inserts.closing;
     match (open_insertion(rest, inserts), faulty.fault) {
@@ -93,20 +93,31 @@ pub(crate) fn push_insertion(shown: &mut String, place: Place<'_>) -> Result<(),
             )?;
             shown.push_str(text.as_str())
         }
-        _ => push_unclosed(shown, place),
+        _ => push_unclosed(shown, place, Some(inserts)),
     }
 }
 
 /// Appends what is wrong with a literal or an insertion by its fault alone. If a literal has no closing quote and begins at the
 /// end of another one, its quote may be meant as one inside of that one.
-fn push_unclosed(shown: &mut String, place: Place<'_>) -> Result<(), AllocError> {
+fn push_unclosed(
+    shown: &mut String,
+    place: Place<'_>,
+    inserts: Option<Inserts>,
+) -> Result<(), AllocError> {
     let Place { faulty, spot } = place;
+    shown.push_str(reason(faulty.fault))?;
     let before = faulty.text.get(..spot.begin).unwrap_or(&[]);
     let follows_quote = matches!(before.last(), Some(byte) if *byte == b'\'');
-    if follows_quote && matches!(faulty.fault, ScriptFault::UnclosedString { .. }) {
-        return shown.push_str(
-            "the literal that begins here has no closing quote. A quote inside of a literal is {'}, after stringescapes {}",
-        );
+    if !follows_quote || !matches!(faulty.fault, ScriptFault::UnclosedString { .. }) {
+        return Ok(());
     }
-    shown.push_str(reason(faulty.fault))
+    shown.push_str(". A quote in a literal is ")?;
+    match inserts {
+        None => shown.push_str("{'}, with stringescapes {} above it"),
+        Some(inserts) => {
+            shown.push(inserts.opening)?;
+            shown.push('\'')?;
+            shown.push(inserts.closing)
+        }
+    }
 }
