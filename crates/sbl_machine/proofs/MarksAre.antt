@@ -142,6 +142,7 @@ or_shift : (a b c d : Bool) → ((a && d) || ((d && b) || c)) ≡ (((b || a) && 
 or_shift true true c true = refl
 or_shift true false c true = refl
 or_shift false true c true = refl
+or_shift false false c true = refl
 or_shift true true c false = refl
 or_shift _ _ c _ = refl
 
