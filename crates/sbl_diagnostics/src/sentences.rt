@@ -1,12 +1,12 @@
 //! What is wrong at the place of a fault, in a sentence.
 
-use crate::characters::{cut, push_cut, push_hexadecimal};
+use crate::characters::{cut, push_alone, push_cut, push_hexadecimal};
 use crate::comments::push_nested;
 use crate::declarations::{declaration_of, declared_in, kind_text, names_of};
 use crate::definitions::{push_no_definition, push_undefined, push_wrong_mode};
 use crate::encodings::push_conversion;
 use crate::expectations::{push_expectation, push_use};
-use crate::foreign::{foreign_character, is_end_line, left_out_text};
+use crate::foreign::{foreign_character, is_end_line, is_letter, left_out_text};
 use crate::insertions::push_insertion;
 use crate::misspelt::{push_meaning, push_substring, push_word_before};
 use crate::near::{nearest_of, push_listed};
@@ -355,7 +355,7 @@ fn push_character(shown: &mut String, place: Place<'_>) -> Result<(), AllocError
         Some(character) if !is_insert_fault(character) => character,
         _ => return shown.push_str(INSERTS),
     };
-    push_thing(shown, spot)?;
+    push_alone(shown, character)?;
     if character == '_' {
         return shown.push_str(
             " cannot begin a name: a name begins with a letter from a to z or A to Z",
@@ -366,7 +366,7 @@ fn push_character(shown: &mut String, place: Place<'_>) -> Result<(), AllocError
         Some("The line that ends a text has a point and no blank after it")
     } else if character == '{' && follows_quote(faulty.text, spot.begin) {
         Some("If a literal is meant, look for a missing quote before it")
-    } else if character > '\u{7F}' && matches!(faulty.part, Some(Part::Grouping(_))) {
+    } else if is_letter(character) && matches!(faulty.part, Some(Part::Grouping(_))) {
         Some("Characters are in quotes")
     } else {
         foreign_character(character)
