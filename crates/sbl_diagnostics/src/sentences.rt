@@ -1,7 +1,7 @@
 //! What is wrong at the place of a fault, in a sentence.
 
 use crate::characters::{cut, push_alone, push_cut, push_hexadecimal};
-use crate::comments::push_nested;
+use crate::comments::{push_comment, push_nested};
 use crate::declarations::{declaration_of, declared_in, kind_text, names_of};
 use crate::definitions::{push_no_definition, push_undefined, push_wrong_mode};
 use crate::encodings::push_conversion;
@@ -83,7 +83,7 @@ fn is_at_item(kind: Option<Kind>) -> bool {
 }
 
 /// Returns where the innermost parenthesis begins that these tokens leave open, if one is.
-fn open_in(alloc: Global, tokens: &[Token<'_>]) -> Result<Option<usize>, AllocError> {
+pub(crate) fn open_in(alloc: Global, tokens: &[Token<'_>]) -> Result<Option<usize>, AllocError> {
     let mut open = Vec::new(alloc);
     for token in tokens {
         match token.kind {
@@ -414,10 +414,16 @@ fn integer_after<'a>(faulty: Faulty<'a>, begin: usize) -> Result<Option<&'a str>
 
 /// Appends the sentence for a fault at a place.
 pub(crate) fn push_sentence(shown: &mut String, place: Place<'_>) -> Result<(), AllocError> {
-    let Place { faulty, spot } = place;
     if push_nested(shown, place)? {
         return Ok(());
     }
+    push_by_fault(shown, place)?;
+    push_comment(shown, place)
+}
+
+/// Appends what is wrong at a place, by its fault.
+fn push_by_fault(shown: &mut String, place: Place<'_>) -> Result<(), AllocError> {
+    let Place { faulty, spot } = place;
     match faulty.fault {
         ScriptFault::Syntax { .. } => push_syntax(shown, place),
         ScriptFault::Undeclared { .. } | ScriptFault::WrongKind { .. } => {
