@@ -51,8 +51,6 @@ def advice(line: str, source: str, carets: str, text: bytes) -> str:
         return ". A literal with {..} needs stringescapes {} above it"
     if re.search(r"[\w{] can only be in a literal", line) and source.count("'") % 2 and "missing quote" not in line:
         return ". Look for a missing quote before it, too"
-    if " => is of Snowball" in line and re.search(r"\$\s*\w+\s*=>", source):
-        return ". Did you mean >=?"
     if line.endswith(" the name that is inserted here") and "^" in carets:
         name = source[carets.index("^") + 1 :].partition("}")[0]
         names = re.findall(r"\bstringdef\s+(\S+)", text.decode("utf-8", "replace"))

@@ -390,7 +390,19 @@ fn push_left_out(shown: &mut String, place: Place<'_>) -> Result<(), AllocError>
     }
     push_thing(shown, spot)?;
     shown.push_str(" is of Snowball, but left out here: ")?;
-    shown.push_str(left_out_text(spot.kind))
+    shown.push_str(left_out_text(spot.kind))?;
+    if spot.kind == Some(Kind::Sign(Sign::EqualsGreater)) && follows_dollar(place) {
+        shown.push_str(". Did you mean >=?")?;
+    }
+    Ok(())
+}
+
+/// Returns whether `$` and a name are before a place.
+fn follows_dollar(place: Place<'_>) -> bool {
+    match place.tokens_before().as_slice() {
+        [.., prior, last] => prior.kind == Kind::Sign(Sign::Dollar) && last.kind == Kind::Name,
+        _ => false,
+    }
 }
 
 /// Returns the name after the `$` at an offset, if it is declared as an integer.
