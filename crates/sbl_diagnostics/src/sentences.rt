@@ -7,7 +7,7 @@ use crate::definitions::{push_no_definition, push_undefined, push_wrong_mode};
 use crate::encodings::push_conversion;
 use crate::expectations::{push_expectation, push_use};
 use crate::foreign::{foreign_character, is_end_line, is_letter, left_out_text};
-use crate::insertions::push_insertion;
+use crate::insertions::{follows_quote, push_insertion, push_missing_quote};
 use crate::misspelt::{push_meaning, push_substring, push_word_before};
 use crate::near::{nearest_of, push_listed};
 use crate::reasons::{begins_sentence, reason};
@@ -339,15 +339,6 @@ fn is_insert_fault(character: char) -> bool {
     matches!(character, '\t'..='\r' | ' ' | '\'' | '\u{FEFF}')
 }
 
-/// Returns whether a quote is before an offset, and between them no white space.
-fn follows_quote(text: &[u8], offset: usize) -> bool {
-    let mut follows = false;
-    for byte in text.get(..offset).unwrap_or(text) {
-        follows = *byte == b'\'' || (follows && !byte.is_ascii_whitespace());
-    }
-    follows
-}
-
 /// Appends what is wrong with a character that begins no token.
 fn push_character(shown: &mut String, place: Place<'_>) -> Result<(), AllocError> {
     let Place { faulty, spot } = place;
@@ -375,7 +366,7 @@ fn push_character(shown: &mut String, place: Place<'_>) -> Result<(), AllocError
         shown.push_str(". ")?;
         shown.push_str(advice)?;
     }
-    Ok(())
+    push_missing_quote(shown, place, character)
 }
 
 /// Appends that something is left out here, or that a sign is missing after the name of an integer.
