@@ -1,6 +1,7 @@
 //! The lines on a fault that people read: its place, what is wrong in a sentence, and the line of the text with carets.
 #![tactic(auto)]
 
+mod amongs;
 mod block_faults;
 mod characters;
 mod comments;

@@ -1,5 +1,6 @@
 //! What is wrong at the place of a fault, in a sentence.
 
+use crate::amongs::push_enclosed_in;
 use crate::characters::{cut, push_alone, push_cut, push_hexadecimal};
 use crate::comments::{push_comment, push_nested};
 use crate::declarations::{declaration_of, declared_in, kind_text, names_of};
@@ -448,6 +449,10 @@ fn push_by_fault(shown: &mut String, place: Place<'_>) -> Result<(), AllocError>
         ScriptFault::UnclosedString { .. }
         | ScriptFault::UnknownEscape { .. }
         | ScriptFault::BadCode { .. } => push_insertion(shown, place),
+        ScriptFault::Starter { .. } | ScriptFault::EmptyAmong { .. } => {
+            shown.push_str(reason(faulty.fault))?;
+            push_enclosed_in(shown, place)
+        }
         fault => {
             if !begins_sentence(fault) {
                 push_thing(shown, spot)?;
