@@ -132,16 +132,14 @@ fn first_sign(alloc: Global, text: &[u8]) -> Option<Sign> {
     if first.kind == Kind::Sign(Sign::Slash) {
         return Some(Sign::Slash);
     }
-    match lexer.next() {
-        Ok(Some(second)) if first.kind == Kind::Sign(Sign::Minus) && second.start == first.end => {
-            if second.kind == first.kind {
-                Some(Sign::Minus)
-            } else {
-                None
-            }
-        }
-        _ => None,
+    let Ok(Some(second)) = lexer.next() else {
+        return None;
+    };
+    let is_pair = second.kind == first.kind && second.start == first.end;
+    if is_pair && first.kind == Kind::Sign(Sign::Minus) {
+        return Some(Sign::Minus);
     }
+    None
 }
 
 /// Returns whether the line of a place begins with a sign of a comment of other languages that cannot come there.

@@ -1,12 +1,12 @@
 //! What can come at a place, in a sentence for the author of a script.
 
-use crate::amongs::push_enclosed;
 use crate::characters::cut;
 use crate::constructs::{
     NAMES, is_item, last_definition, push_body, push_form, push_items, push_mode, push_names,
     push_number, push_operator, push_rows, push_sums, push_terms, push_truth,
 };
 use crate::declarations::{DeclaredName, declaration_of, declared_in};
+use crate::enclosed::push_enclosed;
 use crate::grammar::{Outlook, Symbol, outlook_after};
 use crate::sentences::{Place, open_in};
 use crate::sites::{Site, push_advice, push_text};
@@ -181,7 +181,8 @@ fn push_required(
     }
 }
 
-/// Appends what an among has, and how letters are written, if a name is at the place, or how its first string.
+/// Appends what an among has. If a name is at the place, it says how letters are written, and else what to do if parentheses are
+/// around the first string.
 fn push_amongs(
     shown: &mut String,
     site: Site<'_>,

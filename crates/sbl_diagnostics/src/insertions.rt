@@ -154,10 +154,7 @@ pub(crate) fn push_missing_quote(
     let rest = faulty.text.get(spot.begin..).unwrap_or(&[]);
     let is_insertion = character == '}' || rest.starts_with(b"{'");
     if is_insertion && inserts_at(place).is_none() {
-        return push_besides(
-            shown,
-            "A literal with {..} needs stringescapes {} above it",
-        );
+        return push_besides(shown, "A literal with {..} needs stringescapes {} above it");
     }
     let is_inside = character == '{' && !follows_quote(faulty.text, spot.begin);
     let Position { line, column: _ } = position_of(faulty.text, spot.begin);

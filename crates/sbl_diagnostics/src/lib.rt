@@ -1,13 +1,13 @@
 //! The lines on a fault that people read: its place, what is wrong in a sentence, and the line of the text with carets.
 #![tactic(auto)]
 
-mod amongs;
 mod block_faults;
 mod characters;
 mod comments;
 mod constructs;
 mod declarations;
 mod definitions;
+mod enclosed;
 mod encodings;
 mod expectations;
 mod foreign;

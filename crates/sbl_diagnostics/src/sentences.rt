@@ -1,10 +1,10 @@
 //! What is wrong at the place of a fault, in a sentence.
 
-use crate::amongs::push_enclosed_in;
 use crate::characters::{cut, push_alone, push_cut, push_hexadecimal};
 use crate::comments::{push_comment, push_nested};
 use crate::declarations::{declaration_of, declared_in, kind_text, names_of};
 use crate::definitions::{push_no_definition, push_undefined, push_wrong_mode};
+use crate::enclosed::push_enclosed_in;
 use crate::encodings::push_conversion;
 use crate::expectations::{push_expectation, push_use};
 use crate::foreign::{foreign_character, is_end_line, is_letter, left_out_text};
