@@ -157,8 +157,8 @@ pub(crate) fn push_missing_quote(
         return push_besides(shown, "A literal with {..} needs stringescapes {} above it");
     }
     let is_inside = character == '{' && !follows_quote(faulty.text, spot.begin);
-    let Position { line, column: _ } = position_of(faulty.text, spot.begin);
-    if (is_inside || is_letter(character)) && has_odd_quotes(line_at(faulty.text, line)) {
+    let line = line_at(faulty.text, position_of(faulty.text, spot.begin).line);
+    if (is_inside || is_letter(character)) && has_odd_quotes(line) {
         return push_besides(shown, "Look for a missing quote before it, too");
     }
     Ok(())

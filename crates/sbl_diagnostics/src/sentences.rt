@@ -383,15 +383,16 @@ fn push_left_out(shown: &mut String, place: Place<'_>) -> Result<(), AllocError>
     push_thing(shown, spot)?;
     shown.push_str(" is of Snowball, but left out here: ")?;
     shown.push_str(left_out_text(spot.kind))?;
-    if spot.kind == Some(Kind::Sign(Sign::EqualsGreater)) && follows_dollar(place) {
+    let is_greater = spot.kind == Some(Kind::Sign(Sign::EqualsGreater));
+    if is_greater && end_in_subject(&place.tokens_before()) {
         shown.push_str(". Did you mean >=?")?;
     }
     Ok(())
 }
 
-/// Returns whether `$` and a name are before a place.
-fn follows_dollar(place: Place<'_>) -> bool {
-    match place.tokens_before().as_slice() {
+/// Returns whether these tokens end with `$` and a name.
+fn end_in_subject(tokens: &[Token<'_>]) -> bool {
+    match tokens {
         [.., prior, last] => prior.kind == Kind::Sign(Sign::Dollar) && last.kind == Kind::Name,
         _ => false,
     }
