@@ -47,12 +47,6 @@ def shown(
 def advice(line: str, source: str, carets: str, text: bytes) -> str:
     """Returns what is said besides after a line on a fault of a text, by the line of the text below it, and the carets."""
     word = [*source.split(), ""][0]
-    if text and b"stringescapes" not in text and ": } can only be" in line:
-        return ". A literal with {..} needs stringescapes {} above it"
-    if re.search(r"[\w{] can only be in a literal", line) and source.count("'") % 2 and "missing quote" not in line:
-        return ". Look for a missing quote before it, too"
-    if " => is of Snowball" in line and re.search(r"\$\s*\w+\s*=>", source):
-        return ". Did you mean >=?"
     if line.endswith(" the name that is inserted here") and "^" in carets:
         name = source[carets.index("^") + 1 :].partition("}")[0]
         names = re.findall(r"\bstringdef\s+(\S+)", text.decode("utf-8", "replace"))

@@ -150,9 +150,22 @@ pub(crate) fn push_named_character(shown: &mut String, character: char) -> Resul
     if !is_in(&HIDDEN, character) {
         return shown.push(character);
     }
+    push_code(shown, character)
+}
+
+/// Appends the number of a character.
+fn push_code(shown: &mut String, character: char) -> Result<(), AllocError> {
     shown.push_str("<U+")?;
     push_hexadecimal(shown, u32::from(character), 4_096)?;
     shown.push('>')
+}
+
+/// Appends a character that begins no token; if it is a joiner, which nobody sees, its number.
+pub(crate) fn push_alone(shown: &mut String, character: char) -> Result<(), AllocError> {
+    match character {
+        '\u{200C}' | '\u{200D}' => push_code(shown, character),
+        _ => push_named_character(shown, character),
+    }
 }
 
 /// Returns the text with `?` for each character that a terminal obeys. Returns `AllocError` if an allocation fails.

@@ -1,8 +1,10 @@
-//! A fault after a comment that has another one inside it, since comments do not nest.
+//! A fault after a comment that has another one inside it, since comments do not nest, or in a comment that begins as in other languages.
 
-use crate::sentences::{Place, tokens_before};
+use crate::grammar::outlook_after;
+use crate::sentences::{Place, is_blank, open_in, tokens_before};
+use crate::sites::push_besides;
 use sbl_source_map::{Position, ScriptFault, position_of};
-use sbl_text::Token;
+use sbl_text::{Kind, Lexer, Sign, Token};
 use std::alloc::{AllocError, Global};
 
 /// Returns where the last comment begins that has `/*` inside it, in a text that has comments and white space alone.
@@ -103,4 +105,67 @@ pub(crate) fn push_nested(shown: &mut String, place: Place<'_>) -> Result<bool, 
     )?;
     shown.push_str(text.as_str())?;
     Ok(true)
+}
+
+/// Returns where the line of an offset begins.
+fn line_start(text: &[u8], offset: usize) -> usize {
+    let mut start: usize = 0;
+    let mut at: usize = 0;
+    for byte in text.get(..offset).unwrap_or(text) {
+        at = at.saturating_add(1);
+        if *byte == b'\n' {
+            start = at;
+        }
+    }
+    start
+}
+
+/// Returns the first sign of a text if it may be meant to begin a comment: `/`, or `-` with another one after it.
+fn first_sign(alloc: Global, text: &[u8]) -> Option<Sign> {
+    let Ok(text) = str::from_utf8(text) else {
+        return None;
+    };
+    let mut lexer = Lexer::new(alloc, text);
+    let Ok(Some(first)) = lexer.next() else {
+        return None;
+    };
+    if first.kind == Kind::Sign(Sign::Slash) {
+        return Some(Sign::Slash);
+    }
+    let Ok(Some(second)) = lexer.next() else {
+        return None;
+    };
+    let is_pair = second.kind == first.kind && second.start == first.end;
+    if is_pair && first.kind == Kind::Sign(Sign::Minus) {
+        return Some(Sign::Minus);
+    }
+    None
+}
+
+/// Returns whether the line of a place begins with a sign of a comment of other languages that cannot come there.
+fn is_comment_meant(place: Place<'_>) -> Result<bool, AllocError> {
+    let Place { faulty, spot } = place;
+    let start = line_start(faulty.text, spot.begin);
+    if spot.token == ";" {
+        return Ok(is_blank(between(faulty.text, start, spot.begin)));
+    }
+    let rest = faulty.text.get(start..).unwrap_or(&[]);
+    let Some(sign) = first_sign(faulty.alloc, rest) else {
+        return Ok(false);
+    };
+    let Some(before) = tokens_before(faulty.alloc, faulty.text, start) else {
+        return Ok(false);
+    };
+    match outlook_after(faulty.alloc, &before, faulty.part)? {
+        Some(outlook) => Ok(!outlook.takes(Kind::Sign(sign))),
+        None => Ok(open_in(faulty.alloc, &before)?.is_none()),
+    }
+}
+
+/// Appends how a comment begins if the line of a place begins as a comment of other languages.
+pub(crate) fn push_comment(shown: &mut String, place: Place<'_>) -> Result<(), AllocError> {
+    if is_of_comment(place.faulty.fault) && is_comment_meant(place)? {
+        return push_besides(shown, "A comment begins with //");
+    }
+    Ok(())
 }

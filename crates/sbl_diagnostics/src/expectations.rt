@@ -6,7 +6,9 @@ use crate::constructs::{
     push_number, push_operator, push_rows, push_sums, push_terms, push_truth,
 };
 use crate::declarations::{DeclaredName, declaration_of, declared_in};
+use crate::enclosed::push_enclosed;
 use crate::grammar::{Outlook, Symbol, outlook_after};
+use crate::sentences::{Place, open_in};
 use crate::sites::{Site, push_advice, push_text};
 use sbl_source_map::begins_item;
 use sbl_text::{Kind, Sign, Token, Word};
@@ -179,10 +181,20 @@ fn push_required(
     }
 }
 
-/// Appends what an among has, and how letters are written, if a name is at the place.
-fn push_amongs(shown: &mut String, site: Site<'_>) -> Result<bool, AllocError> {
-    if site.spot.kind != Some(Kind::Name) {
-        return push_advice(shown, AMONGS);
+/// Appends what an among has. If a name is at the place, it says how letters are written, and else what to do if parentheses are
+/// around the first string.
+fn push_amongs(
+    shown: &mut String,
+    site: Site<'_>,
+    tokens: &[Token<'_>],
+) -> Result<bool, AllocError> {
+    let Site { faulty, spot, .. } = site;
+    if spot.kind != Some(Kind::Name) {
+        push_advice(shown, AMONGS)?;
+        if let Some(open) = open_in(faulty.alloc, tokens)? {
+            push_enclosed(shown, Place { faulty, spot }, open)?;
+        }
+        return Ok(true);
     }
     let name = cut(site.faulty.alloc, site.spot.token)?;
     push_text(
@@ -202,7 +214,7 @@ fn push_inside(
     if outlook.offers(Symbol::Names) {
         push_names(shown, site)
     } else if outlook.offers(Symbol::Groups) || outlook.offers(Symbol::Entries) {
-        push_amongs(shown, site)
+        push_amongs(shown, site, tokens)
     } else if outlook.offers(Symbol::Rows) {
         push_rows(shown, site, outlook)
     } else if outlook.offers(Symbol::Joiners) {

@@ -54,6 +54,14 @@ pub(crate) fn advice_on(alloc: Global, script: &[u8], name: &str) -> Option<&'st
     Some(advice)
 }
 
+/// Returns whether a character is beyond ASCII, and no blank, dash or quotation mark, and not invisible.
+pub(crate) fn is_letter(character: char) -> bool {
+    match character {
+        '\u{A0}' | '\u{2000}'..='\u{206F}' | '\u{2212}' => false,
+        _ => character > '\u{7F}',
+    }
+}
+
 /// Returns what to write in place of a character that begins no token, if that is sure.
 pub(crate) fn foreign_character(character: char) -> Option<&'static str> {
     match character {
@@ -68,6 +76,10 @@ pub(crate) fn foreign_character(character: char) -> Option<&'static str> {
         '!' => Some("Before a command write not"),
         '\u{A0}' | '\u{2007}' | '\u{202F}' => {
             Some("This is a no-break space: put a blank in its place")
+        }
+        '\u{2013}' | '\u{2014}' | '\u{2212}' => Some("Put - in its place"),
+        '\u{200B}'..='\u{200D}' | '\u{2060}' => {
+            Some("This is an invisible character: take it away")
         }
         '\u{2000}'..='\u{206F}' => None,
         '\u{80}'..='\u{10FFFF}' => Some("Names have only a to z, A to Z, 0 to 9 and _"),

@@ -1,7 +1,10 @@
-//! An insertion of a literal that has no closing character.
+//! An insertion of a literal that has no closing character, and characters outside of a literal that may be meant inside of one.
 
+use crate::foreign::is_letter;
 use crate::reasons::reason;
 use crate::sentences::Place;
+use crate::sites::push_besides;
+use crate::text_lines::line_at;
 use sbl_source_map::{Position, ScriptFault, position_of};
 use sbl_text::{Inserts, Kind, Lexer};
 use std::alloc::{AllocError, Global};
@@ -120,4 +123,43 @@ fn push_unclosed(
             shown.push(inserts.closing)
         }
     }
+}
+
+/// Returns whether a quote is before an offset, and between them no white space.
+pub(crate) fn follows_quote(text: &[u8], offset: usize) -> bool {
+    let mut follows = false;
+    for byte in text.get(..offset).unwrap_or(text) {
+        follows = *byte == b'\'' || (follows && !byte.is_ascii_whitespace());
+    }
+    follows
+}
+
+/// Returns whether a line has an odd number of quotes.
+fn has_odd_quotes(line: &[u8]) -> bool {
+    let mut is_odd = false;
+    for byte in line {
+        is_odd = is_odd != (*byte == b'\'');
+    }
+    is_odd
+}
+
+/// Appends that insertions need `stringescapes`, or that a quote may be missing, if a character that begins no token may be meant
+/// inside of a literal.
+pub(crate) fn push_missing_quote(
+    shown: &mut String,
+    place: Place<'_>,
+    character: char,
+) -> Result<(), AllocError> {
+    let Place { faulty, spot } = place;
+    let rest = faulty.text.get(spot.begin..).unwrap_or(&[]);
+    let is_insertion = character == '}' || rest.starts_with(b"{'");
+    if is_insertion && inserts_at(place).is_none() {
+        return push_besides(shown, "A literal with {..} needs stringescapes {} above it");
+    }
+    let is_inside = character == '{' && !follows_quote(faulty.text, spot.begin);
+    let line = line_at(faulty.text, position_of(faulty.text, spot.begin).line);
+    if (is_inside || is_letter(character)) && has_odd_quotes(line) {
+        return push_besides(shown, "Look for a missing quote before it, too");
+    }
+    Ok(())
 }

@@ -1,13 +1,14 @@
 //! What is wrong at the place of a fault, in a sentence.
 
-use crate::characters::{cut, push_cut, push_hexadecimal};
-use crate::comments::push_nested;
+use crate::characters::{cut, push_alone, push_cut, push_hexadecimal};
+use crate::comments::{push_comment, push_nested};
 use crate::declarations::{declaration_of, declared_in, kind_text, names_of};
 use crate::definitions::{push_no_definition, push_undefined, push_wrong_mode};
+use crate::enclosed::push_enclosed_in;
 use crate::encodings::push_conversion;
 use crate::expectations::{push_expectation, push_use};
-use crate::foreign::{foreign_character, is_end_line, left_out_text};
-use crate::insertions::push_insertion;
+use crate::foreign::{foreign_character, is_end_line, is_letter, left_out_text};
+use crate::insertions::{follows_quote, push_insertion, push_missing_quote};
 use crate::misspelt::{push_meaning, push_substring, push_word_before};
 use crate::near::{nearest_of, push_listed};
 use crate::reasons::{begins_sentence, reason};
@@ -83,7 +84,7 @@ fn is_at_item(kind: Option<Kind>) -> bool {
 }
 
 /// Returns where the innermost parenthesis begins that these tokens leave open, if one is.
-fn open_in(alloc: Global, tokens: &[Token<'_>]) -> Result<Option<usize>, AllocError> {
+pub(crate) fn open_in(alloc: Global, tokens: &[Token<'_>]) -> Result<Option<usize>, AllocError> {
     let mut open = Vec::new(alloc);
     for token in tokens {
         match token.kind {
@@ -339,15 +340,6 @@ fn is_insert_fault(character: char) -> bool {
     matches!(character, '\t'..='\r' | ' ' | '\'' | '\u{FEFF}')
 }
 
-/// Returns whether a quote is before an offset, and between them no white space.
-fn follows_quote(text: &[u8], offset: usize) -> bool {
-    let mut follows = false;
-    for byte in text.get(..offset).unwrap_or(text) {
-        follows = *byte == b'\'' || (follows && !byte.is_ascii_whitespace());
-    }
-    follows
-}
-
 /// Appends what is wrong with a character that begins no token.
 fn push_character(shown: &mut String, place: Place<'_>) -> Result<(), AllocError> {
     let Place { faulty, spot } = place;
@@ -355,7 +347,7 @@ fn push_character(shown: &mut String, place: Place<'_>) -> Result<(), AllocError
         Some(character) if !is_insert_fault(character) => character,
         _ => return shown.push_str(INSERTS),
     };
-    push_thing(shown, spot)?;
+    push_alone(shown, character)?;
     if character == '_' {
         return shown.push_str(
             " cannot begin a name: a name begins with a letter from a to z or A to Z",
@@ -366,7 +358,7 @@ fn push_character(shown: &mut String, place: Place<'_>) -> Result<(), AllocError
         Some("The line that ends a text has a point and no blank after it")
     } else if character == '{' && follows_quote(faulty.text, spot.begin) {
         Some("If a literal is meant, look for a missing quote before it")
-    } else if character > '\u{7F}' && matches!(faulty.part, Some(Part::Grouping(_))) {
+    } else if is_letter(character) && matches!(faulty.part, Some(Part::Grouping(_))) {
         Some("Characters are in quotes")
     } else {
         foreign_character(character)
@@ -375,7 +367,7 @@ fn push_character(shown: &mut String, place: Place<'_>) -> Result<(), AllocError
         shown.push_str(". ")?;
         shown.push_str(advice)?;
     }
-    Ok(())
+    push_missing_quote(shown, place, character)
 }
 
 /// Appends that something is left out here, or that a sign is missing after the name of an integer.
@@ -390,7 +382,20 @@ fn push_left_out(shown: &mut String, place: Place<'_>) -> Result<(), AllocError>
     }
     push_thing(shown, spot)?;
     shown.push_str(" is of Snowball, but left out here: ")?;
-    shown.push_str(left_out_text(spot.kind))
+    shown.push_str(left_out_text(spot.kind))?;
+    let is_greater = spot.kind == Some(Kind::Sign(Sign::EqualsGreater));
+    if is_greater && end_in_subject(&place.tokens_before()) {
+        shown.push_str(". Did you mean >=?")?;
+    }
+    Ok(())
+}
+
+/// Returns whether these tokens end with `$` and a name.
+fn end_in_subject(tokens: &[Token<'_>]) -> bool {
+    match tokens {
+        [.., prior, last] => prior.kind == Kind::Sign(Sign::Dollar) && last.kind == Kind::Name,
+        _ => false,
+    }
 }
 
 /// Returns the name after the `$` at an offset, if it is declared as an integer.
@@ -414,10 +419,16 @@ fn integer_after<'a>(faulty: Faulty<'a>, begin: usize) -> Result<Option<&'a str>
 
 /// Appends the sentence for a fault at a place.
 pub(crate) fn push_sentence(shown: &mut String, place: Place<'_>) -> Result<(), AllocError> {
-    let Place { faulty, spot } = place;
     if push_nested(shown, place)? {
         return Ok(());
     }
+    push_by_fault(shown, place)?;
+    push_comment(shown, place)
+}
+
+/// Appends what is wrong at a place, by its fault.
+fn push_by_fault(shown: &mut String, place: Place<'_>) -> Result<(), AllocError> {
+    let Place { faulty, spot } = place;
     match faulty.fault {
         ScriptFault::Syntax { .. } => push_syntax(shown, place),
         ScriptFault::Undeclared { .. } | ScriptFault::WrongKind { .. } => {
@@ -439,6 +450,10 @@ pub(crate) fn push_sentence(shown: &mut String, place: Place<'_>) -> Result<(), 
         ScriptFault::UnclosedString { .. }
         | ScriptFault::UnknownEscape { .. }
         | ScriptFault::BadCode { .. } => push_insertion(shown, place),
+        ScriptFault::Starter { .. } | ScriptFault::EmptyAmong { .. } => {
+            shown.push_str(reason(faulty.fault))?;
+            push_enclosed_in(shown, place)
+        }
         fault => {
             if !begins_sentence(fault) {
                 push_thing(shown, spot)?;

@@ -125,3 +125,10 @@ pub(crate) fn push_advice(shown: &mut String, sentence: &str) -> Result<bool, Al
 pub(crate) fn push_text(shown: &mut String, sentence: String) -> Result<bool, AllocError> {
     push_advice(shown, sentence.as_str())
 }
+
+/// Appends a sentence after what is said already, whether that ends with a point or not.
+pub(crate) fn push_besides(shown: &mut String, sentence: &str) -> Result<(), AllocError> {
+    let is_ended = matches!(shown.as_str().as_bytes().last(), Some(byte) if *byte == b'.');
+    shown.push_str(if is_ended { " " } else { ". " })?;
+    shown.push_str(sentence)
+}

@@ -5,7 +5,7 @@ use crate::declarations::{DeclaredName, declaration_of, names_of};
 use crate::definitions::is_at_terms;
 use crate::foreign::advice_on;
 use crate::grammar::is_operator;
-use crate::near::{push_near, push_near_word};
+use crate::near::{push_listed, push_near, push_near_word};
 use crate::sentences::{Faulty, Place, tokens_of};
 use sbl_script::Part;
 use sbl_text::{Kind, Sign, Token, Word};
@@ -228,6 +228,28 @@ fn push_way_out(
     push_declaration(shown, place, need, " Declare", ", or use another name.")
 }
 
+/// Appends how to declare the external that is to be run, if these are declared and it is not.
+fn push_external_declaration(
+    shown: &mut String,
+    name: &str,
+    externals: &[&str],
+) -> Result<(), AllocError> {
+    if externals.is_empty() {
+        shown.push_str(" Declare it: externals ( ")?;
+    } else {
+        shown.push_str(" externals declares ")?;
+        push_listed(shown, externals, " and ")?;
+        if externals.len() > 1 {
+            shown.push_str(": write ")?;
+            push_cut(shown, name)?;
+            return shown.push_str(" there, too");
+        }
+        shown.push_str(": write externals ( ")?;
+    }
+    push_cut(shown, name)?;
+    shown.push_str(" )")
+}
+
 /// Appends that a name is not declared, and what may be meant or how to declare it.
 pub(crate) fn push_undeclared(
     shown: &mut String,
@@ -239,10 +261,11 @@ pub(crate) fn push_undeclared(
         return shown.push_str(" is declared only after this: move its declaration before it");
     }
     shown.push_str(" is not declared.")?;
-    if name == place.faulty.external && names_of(place.faulty.alloc, declared, true)?.is_empty() {
-        shown.push_str(" Declare it: externals ( ")?;
-        push_cut(shown, name)?;
-        return shown.push_str(" )");
+    let externals = names_of(place.faulty.alloc, declared, true)?;
+    if name == place.faulty.external
+        && (externals.is_empty() || need_at(place).usage == Usage::New)
+    {
+        return push_external_declaration(shown, name, &externals);
     }
     push_way_out(shown, declared, place)
 }
