@@ -1,5 +1,6 @@
 """What the program says about a fault, fitted to a window, with columns as an editor counts them, names of files, and advice."""
 import re
+import unicodedata
 from typing import Any, List, Optional, Sequence, Tuple
 
 from .language import ITEMS, RESERVED
@@ -46,7 +47,11 @@ def shown(
 
 def advice(line: str, source: str, carets: str, text: bytes) -> str:
     """Returns what is said besides after a line on a fault of a text, by the line of the text below it, and the carets."""
-    word = [*source.split(), ""][0]
+    word, odd = [*source.split(), ""][0], re.search(r": (?:(\W)|<U.\w+>) can only be in a literal or a comment\Z", line)
+    if odd and (not odd[1] or unicodedata.category(odd[1]) == "Pd"):
+        return ". Put - in its place" if odd[1] else ". It is invisible: take it away"
+    if (word == "/" or word.startswith(("--", ";"))) and re.search(r" (can only be in a literal|cannot follow what is before it)\b", line):
+        return " A comment begins with //." if line.endswith(".") else ". A comment begins with //"
     if text and b"stringescapes" not in text and ": } can only be" in line:
         return ". A literal with {..} needs stringescapes {} above it"
     if re.search(r"[\w{] can only be in a literal", line) and source.count("'") % 2 and "missing quote" not in line:
