@@ -31,9 +31,10 @@ class Stage:
 
     def __init__(self, program: Program, script: str, words: Optional[str]):
         self.program, self.script, self.words = program, script, words
-        # The states of the files when they were read, and the text that SCRIPT had then.
+        # The states of the files when they were read, and the text that SCRIPT had then; the hash of that of WORDS.
         self.seen: Dict[str, FileState] = {}
         self.file_text: Optional[bytes] = None
+        self.words_text = 0
         # Since when files are not there; those of which this was said.
         self.missed, self.gone = {}, set()  # type: Dict[str, float], Set[str]
         self.known_places: Optional[Places] = None
@@ -110,6 +111,7 @@ class Bench(Stage):
 
     def open(self) -> Reply:
         self.look()
+        self.words_text = hash(read_file(self.words))
         reply = self.program.start()
         self.is_waiting = not reply.is_done
         if reply.is_done:
@@ -181,7 +183,7 @@ class Bench(Stage):
         elif word in ("words", "append"):
             program.now = program.now._replace(words=() if word == "words" else program.now.words)
             self.look(self.words or "")
-            self.added = []
+            self.words_text, self.added = hash(read_file(self.words)), []
         elif word == "mark":
             program.marked = program.now._replace(stems=os.path.realpath(argument) if argument else "")
             self.changes = self.read("changes") if argument else []

@@ -37,6 +37,7 @@ NO_FILE += [("(?!%s)%s[<>|]" % (REPORT, BEFORE_FILE[0]), "{c} takes the name of 
 ALONE = "|".join(name for name in REPORTING if name not in COMMANDS or not COMMANDS[name].takes)
 INTO_FILE = "A report goes into a file by > FILE, with blanks around the >, as in: classes > my.classes. There are no pipes here."
 NO_FILE += [(r"(?!uses )(?:%s) (?:(?:.* )?(?:\||>>) .|.* >\Z)|(?:%s) (?:\||>>?)\Z" % (REPORT, ALONE), INTO_FILE)]
+NO_FILE += [(r"help (?:.* )?[>|]", "help goes into no file: docs/REFERENCE.md describes all commands.")]
 # How a comment and a declaration of a script begin.
 COMMENT, DECLARATION = r"\s*(//|/\*)", r"(%s)( |\Z)" % "|".join(word for word in ITEMS if word != "define")
 # By the beginning of a line that is no command what is said of it. {c} is its first word.

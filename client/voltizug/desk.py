@@ -147,7 +147,7 @@ class Desk:
         path = self.bench.words or ""
         if path in self.bench.saved():
             self.bench.look(path)
-            self.has_old_words = True
+            self.has_old_words = hash(kept.read_file(path)) != self.bench.words_text
         return "%s has changed: words reads it again." % short(path) if self.has_old_words else ""
 
     # What becomes of a request

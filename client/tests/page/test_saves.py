@@ -354,6 +354,28 @@ class SavesInBrowser(BrowserPage):
         first.wait("$('bar').innerText.includes('Nothing was written')")
         self.assertEqual((self.file(), self.texts(second)[1]), (SCRIPT + "// second\n", ""))
 
+    def test_a_trial_that_another_page_replaces(self):
+        """It is there again at a click where it was tried; in the editor it stays."""
+        for is_editing in (False, True):
+            first = self.show()
+            second = self.tab()
+            self.type(second, "// second\n")
+            second.press("Enter", modifiers=2)
+            second.wait("!S.dirty && S.st.isTrial")
+            first.wait("S.st.isTrial && !S.editing")
+            if not is_editing:
+                second.run("edit(false)")
+            first.run("edit(true), $('editor').value = %r, typed()" % TYPED)
+            first.press("s", modifiers=2)
+            first.wait("!S.saving && $('bar').innerText.includes('Saved. Another page has replaced this trial')")
+            self.assertEqual(self.file(), TYPED)
+            if is_editing:
+                second.wait("!$('outside').hidden")
+            else:
+                second.wait("$('bar').innerText.includes('Another page has replaced this trial')")
+                second.run("$('bar').querySelector('button').click()")
+            second.wait("S.editing && S.dirty && $('editor').value === %r" % (SCRIPT + "// second\n"))
+
     def test_saves_one_after_another(self):
         tab = self.show()
         for i in range(5):

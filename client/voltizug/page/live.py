@@ -32,6 +32,7 @@ KEPT, MOST_RULES = 64, 500
 # What is said of a text that the file replaced: whether it had been saved, and whether the program holds it.
 REPLACED = {False: "The file has replaced your trial", True: "The file has replaced what you saved here"}
 HELD = {False: ". Only comments differ, so undo does not bring it back.", True: ": undo brings it back."}
+OTHERS = "Another page has replaced this trial: undo brings it back."
 ORIGINS = {"file": "saved", "trial": "trial", "undo": "undo", "redo": "redo"}
 
 
@@ -45,9 +46,10 @@ class Live:
         self.parts: Dict[str, Any] = {}
         self.deltas: Dict[int, List[int]] = {}
         self.outcomes, self.mark_version = Outcomes(), 0
-        # The names of the edits that `history` holds, those that are undone too; the definitions of the script before; the text that was tried last.
+        # The names of the edits that `history` holds, those that are undone too; the definitions of the script before; the text that was tried last, and the
+        # page that did.
         self.steps: List[str] = []
-        self.typed = ""
+        self.typed, self.tab = "", ""
         self.bases, self.saves = Bases(), Saves(bench)
         self.slices: Dict[str, bytes] = {}
         self.origin, self.begun, self.is_restarted = "start", 0.0, False
@@ -124,7 +126,7 @@ class Live:
                     self.floor = min(self.deltas)
                     del self.deltas[self.floor]
             self.script += 1
-            last = {"origin": self.origin, "at": time.strftime("%H:%M:%S"), "ms": round(1000 * (time.monotonic() - self.begun)), "changed": changed}
+            last = {"origin": self.origin, "at": time.strftime("%H:%M:%S"), "ms": round(1000 * (time.monotonic() - self.begun)), "changed": changed, "tab": self.tab * (self.origin == "trial")}
             self.publish(text=ink.shown_text(text), script=self.script, fault=None, notice="", aside=None, last=last, isPartial=True)
 
     def show_mark(self, name: str = "") -> None:
@@ -345,8 +347,9 @@ class Live:
             if not self.edit([command], command):
                 break
 
-    def take_trial(self, text: str, base: str = "") -> None:
-        """Has the program run a text that is in no file."""
+    def take_trial(self, text: str, base: str = "", tab: str = "") -> str:
+        """Has the program run a text that is in no file, for one of several pages. Returns what is said if it replaced the trial of another one."""
+        before, is_others = self.bench.program.now.text, self.part("isTrial") and tab != self.tab
         self.typed = text.replace("\r\n", "\n")
         lines = self.typed.split("\n")
         lines = lines[:-1] if lines[-1] == "" else lines
@@ -358,10 +361,14 @@ class Live:
                 self.note_base("same", base)
                 self.publish(fault=None, base=self.base())
             else:
-                mark = BOM.decode() if (self.bench.file_text or b"").startswith(BOM) and lines else ""
-                self.edit(["replace", *([mark + lines[0], *lines[1:]] if lines else []), "."], "trial", base)
+                mark, aside = BOM.decode() if (self.bench.file_text or b"").startswith(BOM) and lines else "", self.bases.first_of(before)
+                self.tab = tab
+                if self.edit(["replace", *([mark + lines[0], *lines[1:]] if lines else []), "."], "trial", base) and is_others:
+                    self.publish(aside={"text": ink.shown_text(before), "base": aside}, notice=OTHERS)
+                    return OTHERS
+            return ""
 
-    def save(self, is_sure: bool, text: Optional[str] = None, base: str = "") -> Dict[str, str]:
+    def save(self, is_sure: bool, text: Optional[str] = None, base: str = "", tab: str = "") -> Dict[str, str]:
         """Writes the current script to the file, or a text with its base, if the program accepts that. Returns what the file has then."""
         bench = self.bench
         with self.asking():
@@ -371,7 +378,7 @@ class Live:
             if why == "undone?" and not self.edit(["reload"], "file"):
                 # (what the file has is a step again: undo brings it back later)
                 raise Refused("%s cannot be read, and was not overwritten." % short(bench.script))
-            self.take_trial(text, base)
+            said = self.take_trial(text, base, tab)
             if ink.shown_text(bench.program.now.text) != text.replace("\r\n", "\n"):
                 if self.part("fault"):
                     self.publish(notice="Nothing was written: the text has a fault.")
@@ -381,7 +388,8 @@ class Live:
             if not reply.is_done:
                 raise Refused(words.sentence(reply, ["save " + bench.script], bench))
             self.note_base("file", "")
-            self.publish(isTrial=False, fault=None, notice="Saved.", aside=None, base=self.base(), file=self.base())
+            aside, said = self.part("aside") if said else None, ("Saved. " + said).strip()
+            self.publish(isTrial=False, fault=None, notice=said, aside=aside, base=self.base(), file=self.base())
             return {"file": self.base()}
 
     def merge(self, text: str, base: str) -> Dict[str, Any]:

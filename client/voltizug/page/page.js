@@ -2,6 +2,7 @@
 // All text from files goes into the page as text nodes, never as markup. No script is read here: the server says what is where.
 const $ = id => document.getElementById(id);
 const base = location.pathname.replace(/[^/]*$/, ''), ROW = 28, LINE = 20, TOP = 8, GAP = 80, ALL = 400;
+const TAB = String(Math.random());
 const VIEWS = ['changes', 'classes', 'word', 'rule', 'families'];
 const S = {
   st: {}, words: [], out: [], marked: [], classes: null, changed: null, view: 'changes', kind: 'changed', fkind: 'under', sort: 'size', desc: true, pick: null, sel: null,
@@ -156,7 +157,7 @@ async function showLost() {
 let ticking = 0;
 function take(news) {
   const { words, outcomes, delta, marks, ...rest } = news, st = S.st, text = st.text, fault = JSON.stringify(st.fault), wasTrial = st.isTrial, wasFaulty = Boolean(st.fault) && st.fault.origin === 'trial';
-  const isRead = rest.fault ? rest.fault.origin === 'file' : rest.text !== undefined && Boolean(rest.last) && rest.last.origin === 'file';
+  const isRead = rest.fault ? rest.fault.origin === 'file' : rest.text !== undefined && Boolean(rest.last) && (rest.last.origin === 'file' || rest.last.origin === 'trial' && rest.last.tab !== TAB);
   Object.assign(st, rest);
   // (a trial that is in the editor stays there as the file replaces it, and one with a fault as anything replaces it)
   if (S.editing && ($('editor').value === inForce() || isRead && S.dropping)) setEditor();
@@ -238,7 +239,7 @@ function showTop(news) {
   }
   showStatus();
   if ('fault' in news && st.fault && !st.fault.line) say(st.fault.sentence, true);
-  else if ('notice' in news && st.notice && !(st.aside && S.editing)) say(st.notice, false, st.aside && ['Edit it again', () => editText(st.aside.text, st.aside.base)]);
+  else if ('notice' in news && st.notice && !(st.aside && isTyped())) say(st.notice, false, st.aside && ['Edit it again', () => editText(st.aside.text, st.aside.base)]);
   else if ('notice' in news || 'fault' in news) $('bar').hidden = true;
 }
 function say(sentence, bad, act) {
@@ -523,14 +524,14 @@ function typed(event) {
 async function tryIt() {
   if (!S.editing || !S.dirty) return;
   // (the news say what was tried)
-  await post('trial', { text: $('editor').value, base: S.base });
+  await post('trial', { text: $('editor').value, base: S.base, tab: TAB });
   layout();
   showEditButtons();
 }
 let refused = 0;
 async function save() {
   if (!S.st.isTrial && !S.dirty || S.saving) return;
-  const sure = performance.now() - refused < 20000, text = $('editor').value, body = isTyped() ? { text, base: S.base, sure } : { base: S.st.base, sure };
+  const sure = performance.now() - refused < 20000, text = $('editor').value, body = { ...(isTyped() ? { text, base: S.base } : { base: S.st.base }), sure, tab: TAB };
   S.saving = true;
   const reply = await post('save', body);
   S.saving = false;

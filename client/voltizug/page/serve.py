@@ -135,8 +135,8 @@ class Handler(BaseHTTPRequestHandler):
             return
         live, given = self.server.live, body
         asked: Dict[str, Callable[[], Any]] = {
-            "trial": lambda: live.take_trial(given["text"], str(given.get("base", ""))), "reload": lambda: live.edit(["reload"], "file"),
-            "save": lambda: live.save(given.get("sure") is True, given.get("text"), str(given.get("base", ""))), "merge": lambda: live.merge(given["text"], given["base"]),
+            "trial": lambda: live.take_trial(given["text"], str(given.get("base", "")), str(given.get("tab", ""))), "reload": lambda: live.edit(["reload"], "file"),
+            "save": lambda: live.save(given.get("sure") is True, given.get("text"), str(given.get("base", "")), str(given.get("tab", ""))), "merge": lambda: live.merge(given["text"], given["base"]),
             "undo": lambda: live.undo("undo", int(given["count"])), "redo": lambda: live.undo("redo", int(given["count"])), "stop": live.bench.program.break_off,
             "mark": lambda: live.mark(given.get("stems") is True), "limit": lambda: live.limit(str(given["limit"])),
             "add": lambda: live.add([str(word) for word in given["words"]]), "append": live.append, "tokens": lambda: live.tokens(given["text"]),
