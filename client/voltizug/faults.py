@@ -1,6 +1,5 @@
 """What the program says about a fault, fitted to a window, with columns as an editor counts them, names of files, and advice."""
 import re
-import unicodedata
 from typing import Any, List, Optional, Sequence, Tuple
 
 from .language import ITEMS, RESERVED
@@ -16,6 +15,14 @@ CODE = re.compile(r"snowbench: (\d+) (\w+)")
 # What is said of a script without an external; what of `non` and a grouping in one word, if no other name is near it.
 NO_EXTERNAL = ": the script declares no external: "
 NEGATED = re.compile(r": non_?([A-Za-z][A-Za-z0-9_]*) is not declared\. (?:Did you mean non\?|Declare )")
+# What is said besides of a fault, by what the line on it has and what the line of the text has.
+ONLY, COMMENT = r" can only be in a literal or a comment\Z", r"\A\s*(/\s|--|;)"
+ADVICE = (
+    (r": <U.\w+>" + ONLY, "", ". It is invisible: take it away"), (r": [\u2010-\u2015\u2212]" + ONLY, "", ". Put - in its place"),
+    (r" (can only be in a literal|cannot follow what is before it)\b.*\.\Z", COMMENT, " A comment begins with //."),
+    (r" (can only be in a literal|cannot follow what is before it)\b", COMMENT, ". A comment begins with //"),
+    (" => is of Snowball", r"\$\s*\w+\s*=>", ". Did you mean >=?"), (r": <= cannot follow what is before it\Z", r"<=\s*'", ". Did you mean <-?"),
+)
 OPEN = re.compile(r":(\d+):(\d+): .*; the \( of (\d+):(\d+) is still open\Z")
 
 
@@ -47,19 +54,14 @@ def shown(
 
 def advice(line: str, source: str, carets: str, text: bytes) -> str:
     """Returns what is said besides after a line on a fault of a text, by the line of the text below it, and the carets."""
-    word, odd = [*source.split(), ""][0], re.search(r": (?:(\W)|<U.\w+>) can only be in a literal or a comment\Z", line)
-    if odd and (not odd[1] or unicodedata.category(odd[1]) == "Pd"):
-        return ". Put - in its place" if odd[1] else ". It is invisible: take it away"
-    if (word == "/" or word.startswith(("--", ";"))) and re.search(r" (can only be in a literal|cannot follow what is before it)\b", line):
-        return " A comment begins with //." if line.endswith(".") else ". A comment begins with //"
+    word = [*source.split(), ""][0]
+    for fault, begins, then in ADVICE:
+        if re.search(fault, line) and re.search(begins, source):
+            return then
     if text and b"stringescapes" not in text and ": } can only be" in line:
         return ". A literal with {..} needs stringescapes {} above it"
     if re.search(r"[\w{] can only be in a literal", line) and source.count("'") % 2 and "missing quote" not in line:
         return ". Look for a missing quote before it, too"
-    if " => is of Snowball" in line and re.search(r"\$\s*\w+\s*=>", source):
-        return ". Did you mean >=?"
-    if line.endswith(": <= cannot follow what is before it") and re.search(r"<=\s*'", source):
-        return ". Did you mean <-?"
     if " has no closing quote" in line and re.search(r"\w''|''\w", source):
         signs = re.search(r"\bstringescapes\s+(\S)\s*(\S)", text.decode("utf-8", "replace"))
         return ". A quote in a literal is %s'%s" % signs.groups() if signs else ". A quote in a literal is {'}, with stringescapes {} above it"
