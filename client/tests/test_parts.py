@@ -1,5 +1,7 @@
 """The parts that know no terminal: rows, layouts, loops, near names, warnings, options, what is kept."""
 import os
+import subprocess
+import sys
 import time
 import unittest.mock
 from types import SimpleNamespace
@@ -14,7 +16,7 @@ from voltizug.kept import Kept, state_of
 from voltizug.places import Places, line_and_column
 from voltizug.program import Reply
 
-from .kit import Case, write
+from .kit import CLIENT, Case, write
 
 
 class Layouts(Case):
@@ -96,6 +98,10 @@ class Loops(Case):
 
 
 class Others(Case):
+    def test_the_page_and_the_server_have_nothing_of_the_terminal(self):
+        code = "import sys, voltizug.page.serve, voltizug.page.report, voltizug.editor.lsp; print(*{'readline', 'termios', 'voltizug.desk'} & set(sys.modules))"
+        self.assertEqual(subprocess.run([sys.executable, "-c", code], cwd=CLIENT, capture_output=True, text=True, check=True).stdout, "\n")
+
     def test_the_place_of_a_fault(self):
         said = ["my.sbl:4:16: tale is not declared", "    define stem as tale", "                   ^^^^"]
         self.assertEqual(place_of(said, "my.sbl", "replace"), (4, 16, 4, "tale is not declared"))

@@ -22,13 +22,6 @@ VARYING = re.compile(r"\A.+?:\d+:\d+: |\Anot in .+?: line \d+ of \w+: |[\d,]+ of
 LIST = re.compile(rb"(?:\s*[^\s()/]+[^\S\n]*\n){3,}\s*\Z")
 # Faults of the script have smaller numbers; the status after Ctrl-C at the start.
 LEAST, INTERRUPTED = 25, 130
-# Faults of the words, and what is said of them.
-OF_WORDS: Dict[int, str] = {
-    43: "{name} has a word of more than 255 characters.",
-    44: "{name} has more than 100,000 words. To take some of them: shuf -n 100000 {quoted} > NEW",
-    72: "{name} has a line of more than 65,536 bytes.",
-    75: "{name} is not UTF-8.",
-}
 
 
 class Desk:
@@ -75,15 +68,15 @@ class Desk:
     def wait(self, reply: Reply, is_same: bool, warned: int) -> bool:
         """Shows why the program has ended, if no single warning does. Returns whether `work` waits: a file has a fault that its author corrects."""
         bench, say, code = self.bench, self.screen.say, faults.code_of(reply.said)
-        name = (bench.words if code in OF_WORDS else bench.script) or ""
+        name = (bench.words if code in words.OF_WORDS else bench.script) or ""
         self.show_fault(reply.said)
-        if code == 44 or code in OF_WORDS and warned != 1:
-            say(OF_WORDS[code].format(name=short(name), quoted=words.in_shell(name)), "This keeps work from starting. The other warnings do not." * (warned > 1))
+        if code == 44 or code in words.OF_WORDS and warned != 1:
+            say(words.OF_WORDS[code].format(name=short(name), quoted=words.in_shell(name)), "This keeps work from starting. The other warnings do not." * (warned > 1))
         if not reply.said:
             say(words.SENTENCES[49] if reply.state == DONE else "The program ended at the start, with status %s." % bench.program.stop())
         misplaced = self.misplaced() if 0 < code < LEAST else ""
         say(misplaced)
-        can_wait = (0 < code < LEAST or code in OF_WORDS) and not misplaced and all(map(os.path.isfile, self.paths))
+        can_wait = (0 < code < LEAST or code in words.OF_WORDS) and not misplaced and all(map(os.path.isfile, self.paths))
         if not can_wait and not self.has_waited:
             return False
         self.has_waited = True

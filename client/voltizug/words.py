@@ -31,6 +31,13 @@ SENTENCES: Dict[int, str] = {
     69: "There are no added words that no file has.",
     72: "A line may have 65,536 bytes at most. Nothing was done.",
 }
+# Faults of the words, and what is said of them.
+OF_WORDS: Dict[int, str] = {
+    43: "{name} has a word of more than 255 characters.",
+    44: "{name} has more than 100,000 words. To take some of them: shuf -n 100000 {quoted} > NEW",
+    72: "{name} has a line of more than 65,536 bytes.",
+    75: "{name} is not UTF-8.",
+}
 # Why `save`, `approve` or `append` does not write to a file. {other} is what to do, {new} the same with a new file.
 MAY_NOT: Dict[str, str] = {
     "there": "{path} is there already, and {c} does not overwrite it. Nothing was written: {new}, or delete that one first.",

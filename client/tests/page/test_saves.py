@@ -376,6 +376,19 @@ class SavesInBrowser(BrowserPage):
                 second.run("$('bar').querySelector('button').click()")
             second.wait("S.editing && S.dirty && $('editor').value === %r" % (SCRIPT + "// second\n"))
 
+    def test_a_page_that_is_loaded_again(self):
+        """Its own trial is nobody else's."""
+        tab = self.show()
+        self.type(tab)
+        tab.press("Enter", modifiers=2)
+        tab.wait("!S.dirty && S.st.isTrial")
+        tab.go(self.server.address())
+        tab.wait("typeof S !== 'undefined' && S.st.isTrial && !S.editing && S.st.counts !== undefined")
+        tab.run("edit(true), $('editor').value += '// more\\n', typed()")
+        tab.press("Enter", modifiers=2)
+        tab.wait("!S.dirty && S.st.text.endsWith('// more\\n')")
+        self.assertEqual(self.live.part("notice"), "")
+
     def test_saves_one_after_another(self):
         tab = self.show()
         for i in range(5):

@@ -2,7 +2,8 @@
 // All text from files goes into the page as text nodes, never as markup. No script is read here: the server says what is where.
 const $ = id => document.getElementById(id);
 const base = location.pathname.replace(/[^/]*$/, ''), ROW = 28, LINE = 20, TOP = 8, GAP = 80, ALL = 400;
-const TAB = String(Math.random());
+// (also after a reload of this page it is the same one)
+const TAB = (() => { try { return sessionStorage.voltizug ||= String(Math.random()); } catch (fault) { return String(Math.random()); } })();
 const VIEWS = ['changes', 'classes', 'word', 'rule', 'families'];
 const S = {
   st: {}, words: [], out: [], marked: [], classes: null, changed: null, view: 'changes', kind: 'changed', fkind: 'under', sort: 'size', desc: true, pick: null, sel: null,

@@ -4,7 +4,6 @@ from typing import Any, Dict, List, Optional, Sequence
 from .. import faults, words
 from ..bench import Bench
 from ..kept import read_file
-from ..desk import OF_WORDS
 from ..editor.judge import place_of
 from ..layout import named
 from . import ink
@@ -21,7 +20,7 @@ def refusal(bench: Bench, said: Sequence[str], typed: Optional[str] = None) -> D
     place = place_of(lines, named(script), "replace")
     # (a fault of the words has no place in the script)
     is_of_script = place.line > 0 or typed is not None
-    of_words = OF_WORDS.get(faults.code_of(said)) if bench.words and not is_of_script else None
+    of_words = words.OF_WORDS.get(faults.code_of(said)) if bench.words and not is_of_script else None
     if of_words:
         place = place._replace(sentence=of_words.format(name=named(bench.words), quoted=words.in_shell(bench.words)))
     sent = data if typed is None else typed.encode("utf-8", "replace")
