@@ -1,20 +1,20 @@
 //! The rows of a vocabulary without a bench: each word is run once, and only the word and the text of its row are kept.
 
 ghost use Rattle.sbl_ast.specs.Source.{Source};
-ghost use Rattle.sbl_input.specs.VocabularyRows.{IsWriting, RowsOpen};
+ghost use Rattle.sbl_input.specs.VocabularyRows.{RowsOpen, text_of_rows};
 ghost use Rattle.sbl_rows.specs.Rows.{row_of};
 ghost use Rattle.sbl_semantics.specs.Limit.{default_limit, max_word_length};
 ghost use Rattle.sbl_bench.specs.Contents.{IsFaultOrMemory, word_fault};
 ghost use Rattle.sbl_rows.specs.Setting.{under};
 ghost use Rattle.sbl_io.specs.RecordsWritten.{HasWritten, Writes};
 ghost use Rattle.sbl_input.specs.WordLists.{texts_of};
-ghost use Rattle.std.specs.Prelude.{◌≡◌, ◌≤◌, [], List, ℕ, None, length, map, IfOk, IfErr, OnOk};
+ghost use Rattle.std.specs.Prelude.{◌≡◌, ◌≤◌, [], List, ℕ, None, length, map, slice_index_or, IfOk, IfErr, OnOk};
 ghost use Rattle.sbl_bench.specs.Vocabulary.{with_word};
 ghost use Rattle.sbl_reports.specs.RowRecords.{row_fields};
 ghost use Rattle.sbl_script.specs.ParsedScript.{source_of};
 ghost use Rattle.sbl_machine.specs.MachineOf.{IsLinkedMachineOf};
 
-use crate::word_list::has_no_room;
+use crate::word_list::{has_no_room, insert};
 use indexmap::IndexSet;
 use sbl_bench::{EditFault, MAX_WORDS, Row, WordKeys, word_fault};
 use sbl_machine::{DEFAULT_LIMIT, Machine, Meter, Table};
@@ -45,11 +45,10 @@ impl VocabularyRows {
         }
     }
 
-    /// Appends a word, runs the script on it and writes its row; skips it if it is empty or a repeat. Returns `WordTooLong`, `Full`
-    /// or `OutOfMemory` as `Bench::open` does.
-    fn push(&mut self, machine: &Machine<Table>, word: Vec<char>) -> Result<(), EditFault>
+    /// Appends a word; skips it if it is empty or a repeat. Returns `WordTooLong`, `Full` or `OutOfMemory` as `Bench::open` does.
+    fn push(&mut self, word: Vec<char>) -> Result<(), EditFault>
         ensures words { OnOk result (texts_of self.new.words.keys ≡ with_word (texts_of self.old.words.keys) word.items) }
-        ensures rows { OnOk result ((s : Source) → IsLinkedMachineOf machine.now s → IsWriting s self.old → IsWriting s self.new) }
+        ensures rows { self.new.records ≡ self.old.records }
         ensures ok { OnOk result (word_fault (texts_of self.old.words.keys) word.items ≡ None) }
         ensures fault { IfErr result (λ f. IsFaultOrMemory (word_fault (texts_of self.old.words.keys) word.items) f) }
     {
@@ -57,36 +56,26 @@ impl VocabularyRows {
         if let Some(fault) = word_fault(text, has_no_room(&self.words, text)) {
             return Err(fault);
         }
-        if word.is_empty() {
-            return Ok(());
-        }
-        match self.words.insert(word) {
-            Err(_) => return Err(EditFault::OutOfMemory),
-            Ok(false) => return Ok(()),
-            Ok(true) => {}
-        }
-        let Some(word) = self.words.last() else {
-            return Ok(());
-        };
-        write_row(
-            self.alloc,
-            machine,
-            &mut self.meter,
-            &mut self.records,
-            word.as_slice(),
-        )?;
+        insert(&mut self.words, word)?;
         Ok(())
     }
 
-    /// Appends words as `push` does, in their order.
+    /// Appends words as `push` does, in their order, and then runs the script on them and writes their rows.
     fn push_all(&mut self, machine: &Machine<Table>, words: Vec<Vec<char>>) -> Result<(), EditFault>
         requires { texts_of self.old.words.keys ≡ [] }
         ensures { (s : Source) → IsLinkedMachineOf machine.now s → HasWritten self.old.records.writer [] → RowsOpen s (texts_of words.items) (λ text u. HasWritten self.new.records.writer text) result }
     {
         self.words.reserve(words.len().min(MAX_WORDS))?;
         for word in words {
-            self.push(machine, word)?;
+            self.push(word)?;
         }
+        write_rows(
+            self.alloc,
+            machine,
+            &mut self.meter,
+            &mut self.records,
+            self.words.as_slice(),
+        )?;
         Ok(())
     }
 
@@ -116,6 +105,25 @@ impl VocabularyRows {
         forget(meter);
         forget(words);
     }
+}
+
+/// Runs the script on words and writes their rows, in their order. Returns `AllocError` if an allocation fails.
+///
+/// A look-up of a word mostly waits for memory. Since no word runs in between, the processor waits for several of them at once.
+fn write_rows(
+    alloc: Global,
+    machine: &Machine<Table>,
+    meter: &mut Meter,
+    records: &mut RecordWriter,
+    words: &[Vec<char>],
+) -> Result<(), AllocError>
+    requires { (k : ℕ) → length (slice_index_or (texts_of words.now) k []) ≤ max_word_length }
+    ensures { (s : Source) → IsLinkedMachineOf machine.now s → HasWritten records.old.writer [] → OnOk result (HasWritten records.new.writer (text_of_rows s (texts_of words.now))) }
+{
+    for word in words {
+        write_row(alloc, machine, meter, records, word.as_slice())?;
+    }
+    Ok(())
 }
 
 /// Runs the script on a word and writes its row. Returns `AllocError` if an allocation fails.

@@ -141,7 +141,10 @@ fn distinct(
 }
 
 /// Appends a word, unless it is empty or in the set. Returns `AllocError` if an allocation fails.
-fn insert(set: &mut IndexSet<Vec<char>, WordKeys>, word: Vec<char>) -> Result<(), AllocError>
+pub(crate) fn insert(
+    set: &mut IndexSet<Vec<char>, WordKeys>,
+    word: Vec<char>,
+) -> Result<(), AllocError>
     ensures { OnOk result (texts_of set.new.keys ≡ with_word (texts_of set.old.keys) word.items) }
 {
     if word.is_empty() {

@@ -1,11 +1,7 @@
 use Rattle.std.proofs.Common.{◌≡◌, []}
-use Rattle.sbl_ast.specs.Source.{Source}
 use Rattle.sbl_bench.specs.Contents.{opening_fault}
 use Rattle.sbl_bench.specs.Vocabulary.{vocabulary}
 use Rattle.sbl_bench.specs.inside.ProofNames.{with_all}
-use Rattle.sbl_machine.specs.MachineOf.{IsLinkedMachineOf}
-use Rattle.sbl_io.specs.RecordsWritten.{HasWritten}
-use Rattle.sbl_input.specs.VocabularyRows.{IsWriting}
 use Rattle.sbl_input.specs.WordLists.{texts_of}
 use Rattle.sbl_input.proofs.vocabulary_rows.VocabularyRows.push_all.Given as goal
 
@@ -14,4 +10,4 @@ abbrev pub invariant-loop-word : goal.invariant-loop-word
 invariant-loop-word l =
     (opening_fault [] (texts_of l.fn.words.items) ≡ opening_fault (texts_of l.self.words.keys) (texts_of l.word-iterator.rest.items))
     × (vocabulary (texts_of l.fn.words.items) ≡ with_all (texts_of l.self.words.keys) (texts_of l.word-iterator.rest.items))
-    × ((s : Source) → IsLinkedMachineOf l.machine s → HasWritten l.initial.self.records.writer [] → IsWriting s l.self)
+    × (l.self.records ≡ l.initial.self.records)
