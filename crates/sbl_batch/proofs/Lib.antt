@@ -8,4 +8,3 @@ pub mod OneFilter
 pub mod CompareFacts
 pub mod OneComparison
 pub mod OpenFacts
-pub mod LineFacts

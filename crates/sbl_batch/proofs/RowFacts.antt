@@ -3,9 +3,8 @@ use Rattle.std.proofs.Common.{◌≡◌, ◌≢◌, ◌∙◌, ◌++◌, ℕ, Li
 use Rattle.std.proofs.lemmas.Grind.{flat_map-append}
 use Rattle.std.proofs.lemmas.List.{append-nil, map-append}
 use Rattle.std.proofs.lemmas.List.Elements.{filter-append}
-use Rattle.std.proofs.lemmas.Str.{encodes-chars}
 use Rattle.std.specs.List.{filter}
-use Rattle.std.specs.Str.{IsUtf8, chars, encode_utf8_all}
+use Rattle.std.specs.Str.{encode_utf8_all}
 use Rattle.sbl_rows.specs.Rows.{Row, row_of, rows_of}
 use Rattle.sbl_rows.specs.Setting.{under}
 use Rattle.sbl_batch.specs.Filter.{filter_output, is_filled}
@@ -46,9 +45,5 @@ unfolding row_fields
 fields-are word o = refl
 
 -- the row of a word is that of its outcome
-pub row-is : (s : Source) (word characters : List ℕ) (o : Outcome') → IsUtf8 word → characters ≡ chars word → o ≡ run_of s characters default_limit
-    → word ∷ outcome_fields o ≡ row_fields (row_of (under s default_limit) (chars word))
-row-is s word characters o text is ran =
-    ap (λ (w : List ℕ). w ∷ outcome_fields o) (sym (encodes-chars word text))
-    ∙ ap (λ (x : Outcome'). encode_utf8_all (chars word) ∷ outcome_fields x) (ran ∙ ap (λ (w : List ℕ). run_of s w default_limit) is)
-    ∙ sym (fields-are (chars word) (run_of s (chars word) default_limit))
+pub row-is : (s : Source) (word : List ℕ) (o : Outcome') → o ≡ run_of s word default_limit → encode_utf8_all word ∷ outcome_fields o ≡ row_fields (row_of (under s default_limit) word)
+row-is s word o ran = ap (λ (x : Outcome'). encode_utf8_all word ∷ outcome_fields x) ran ∙ sym (fields-are word (run_of s word default_limit))

@@ -6,7 +6,6 @@ pub mod Compare
 pub mod Laws
 -- what the functions inside the crate promise each other: nothing in these need be believed
 pub mod Checking
-pub mod LineWriter
 pub mod HeldRows
 pub mod Comparing
 pub mod Opening

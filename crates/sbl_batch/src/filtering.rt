@@ -3,7 +3,6 @@ ghost use Rattle.std.specs.Prelude.{◌≡◌, ◌≤◌, ◌⊎◌, [], None, I
 ghost use Rattle.std.specs.Str.{chars};
 ghost use Rattle.sbl_batch.specs.Filter.{Filters, IsFiltered, RepeatsFault};
 ghost use Rattle.sbl_batch.specs.HeldRows.{PushesRow, ReadsWordsOf};
-ghost use Rattle.sbl_batch.specs.LineWriter.{IsBetweenLines};
 ghost use Rattle.sbl_io.specs.Devices.{HasStopped, WritesInTime};
 ghost use Rattle.sbl_io.specs.HeldInput.{KeepsTime, input_of, reads_bound};
 ghost use Rattle.sbl_machine.specs.MachineOf.{IsLinkedMachineOf};
@@ -56,8 +55,6 @@ fn filter_word(
     characters: &[char],
 ) -> Result<(), LoadFault>
     requires is { characters.now ≡ chars word.now }
-    requires between { IsBetweenLines rows.old.lines }
-    ensures between { OnOk result (IsBetweenLines rows.new.lines) }
     ensures pushes { (s : Source) → IsLinkedMachineOf machine.now s → PushesRow s word.now rows.old.text.items rows.new.text.items result }
 {
     if characters.len() > MAX_WORD_LENGTH {
@@ -66,7 +63,7 @@ fn filter_word(
     if characters.is_empty() {
         return Ok(());
     }
-    rows.push_row(alloc, machine, meter, word, characters)?;
+    rows.push_row(alloc, machine, meter, characters)?;
     Ok(())
 }
 
@@ -79,8 +76,6 @@ pub(crate) fn filter_line(
     rows: &mut RowWriter,
     line: &[u8],
 ) -> Result<(), LoadFault>
-    requires between { IsBetweenLines rows.old.lines }
-    ensures between { OnOk result (IsBetweenLines rows.new.lines) }
     ensures pushes { (s : Source) → IsLinkedMachineOf machine.now s → PushesRow s line.now rows.old.text.items rows.new.text.items result }
 {
     let Ok(word) = str::from_utf8(line) else {
@@ -104,7 +99,6 @@ fn read_words<R: Source + Drop, W: Sink>(
     writer: &mut W,
 ) -> Result<(), LoadFault>
     requires made { (s : Source) × IsLinkedMachineOf machine.now s }
-    requires between { IsBetweenLines rows.old.lines }
     requires none { rows.old.text.items ≡ [] }
     ensures reads { (s : Source) → IsLinkedMachineOf machine.now s → lines.old.fault ≡ None → ReadsWordsOf R.left W.held s lines.old lines.new writer.old writer.new rows.new.text.items result }
     ensures remembered { lines.old.fault ≡ None → lines.new.fault ≡ left_by_load result }

@@ -7,7 +7,6 @@ mod comparing;
 mod comparison_rows;
 mod filtering;
 pub mod laws;
-mod lines;
 mod row_writer;
 mod to_end;
 mod word_fault;

@@ -1,6 +1,5 @@
 //! The rows of words, made one after another and written together.
 ghost use Rattle.std.specs.Prelude.{◌≡◌, ◌≤◌, ◌++◌, [], ℕ, length, take, false, Ok, IfErr, OnErr, OnOk};
-ghost use Rattle.std.specs.Str.{chars};
 ghost use Rattle.std.specs.Io.KnownBytes.{Appends};
 ghost use Rattle.sbl_rows.specs.Rows.{row_of};
 ghost use Rattle.sbl_rows.specs.Setting.{under};
@@ -10,14 +9,11 @@ ghost use Rattle.sbl_io.specs.Devices.{HasStopped, WritesInTime};
 ghost use Rattle.sbl_io.specs.Records.{record_line};
 ghost use Rattle.sbl_ast.specs.Source.{Source};
 ghost use Rattle.sbl_batch.specs.HeldRows.{WritesPart};
-ghost use Rattle.sbl_batch.specs.LineWriter.{IsBetweenLines};
 ghost use Rattle.sbl_reports.specs.RowRecords.{row_fields};
 
-use crate::lines::{line_writer, push_line};
-use csv::Writer;
 use sbl_io::{ServeFault, Sink, TextBuffer, write_all};
 use sbl_machine::{DEFAULT_LIMIT, Machine, Meter, Table};
-use sbl_reports::outcome_fields;
+use sbl_reports::append_row;
 use std::alloc::{AllocError, Global};
 
 /// Rows are written after a run if the runs since the last write took more steps than this.
@@ -26,14 +22,11 @@ const MOST_STEPS: u64 = 100_000;
 /// Rows are written after a run if their text has more bytes than this.
 const MOST_BYTES: usize = 65_536;
 
-/// What makes the text of one row after another, and keeps it until it is written. It keeps its buffers from row to row. The run of a
-/// word still allocates.
+/// The text of the rows that are not written yet, and the buffers in which one after another is made. The run of a word still allocates.
 #[derive(Drop)]
 pub(crate) struct RowWriter {
-    /// The writer of the lines.
-    pub(crate) lines: Writer<Vec<u8>>,
-    // A buffer for the stem of a row.
-    stem: TextBuffer,
+    // A buffer for the line of a row.
+    line: TextBuffer,
     /// The text of the rows that are not written yet.
     pub(crate) text: Vec<u8>,
     // The steps of the runs since the last write.
@@ -45,12 +38,10 @@ pub(crate) struct RowWriter {
 impl RowWriter {
     /// Returns a writer of rows that has no row yet. Does not allocate.
     pub(crate) fn new(alloc: Global) -> RowWriter
-        ensures between { IsBetweenLines result.lines }
-        ensures none { result.text.items ≡ [] }
+        ensures { result.text.items ≡ [] }
     {
         RowWriter {
-            lines: line_writer(alloc),
-            stem: TextBuffer::new(alloc),
+            line: TextBuffer::new(alloc),
             text: Vec::new(alloc),
             steps: 0,
             characters: Vec::new(alloc),
@@ -64,7 +55,6 @@ impl RowWriter {
         ensures prefix { (n : ℕ) × Appends (W.held writer.old) (W.held writer.new) (take n self.old.text.items) }
         ensures empty { self.new.text.items ≡ [] }
         ensures none { self.old.text.items ≡ [] → (result ≡ Ok tt) × (writer.new ≡ writer.old) }
-        ensures lines { self.new.lines ≡ self.old.lines }
         ensures later { (W.tally writer.old).failures ≤ (W.tally writer.new).failures }
         ensures steady { OnOk result ((W.tally writer.new).failures ≡ (W.tally writer.old).failures) }
         ensures why { IfErr result (λ fault. (fault ≡ ServeFault.Write) × HasStopped W.tally writer.old writer.new) }
@@ -91,7 +81,6 @@ impl RowWriter {
         ensures prefix { (n : ℕ) × Appends (W.held writer.old) (W.held writer.new) (take n self.old.text.items) }
         ensures before_read { holds_line ≡ false → self.new.text.items ≡ [] }
         ensures cut { OnErr result (self.new.text.items ≡ []) }
-        ensures lines { self.new.lines ≡ self.old.lines }
         ensures later { (W.tally writer.old).failures ≤ (W.tally writer.new).failures }
         ensures steady { OnOk result ((W.tally writer.new).failures ≡ (W.tally writer.old).failures) }
         ensures why { IfErr result (λ fault. (fault ≡ ServeFault.Write) × HasStopped W.tally writer.old writer.new) }
@@ -111,30 +100,25 @@ impl RowWriter {
         alloc: Global,
         machine: &Machine<Table>,
         meter: &mut Meter,
-        word: &str,
         characters: &[char],
     ) -> Result<(), AllocError>
-        requires is { characters.now ≡ chars word.now }
-        requires fits { length characters.now ≤ max_word_length }
-        requires between { IsBetweenLines self.old.lines }
-        ensures row { (s : Source) → IsLinkedMachineOf machine.now s → OnOk result (self.new.text.items ≡ self.old.text.items ++ record_line (row_fields (row_of (under s default_limit) (chars word.now)))) }
+        requires { length characters.now ≤ max_word_length }
+        ensures row { (s : Source) → IsLinkedMachineOf machine.now s → OnOk result (self.new.text.items ≡ self.old.text.items ++ record_line (row_fields (row_of (under s default_limit) characters.now))) }
         ensures stays { OnErr result (self.new.text.items ≡ self.old.text.items) }
-        ensures between { OnOk result (IsBetweenLines self.new.lines) }
     {
         // The lines of a reader are fewer than a meter counts, so the only error is a failed allocation.
         let Ok(end) = machine.run_untraced(alloc, meter, characters, DEFAULT_LIMIT) else {
             return Err(AllocError);
         };
         self.steps = self.steps.saturating_add(end.used);
-        let (kind, text) = outcome_fields(&mut self.stem, &end.outcome)?;
-        meter.reuse_stem(end.outcome);
-        push_line(
+        let appended = append_row(
             alloc,
-            &mut self.lines,
+            &mut self.line,
             &mut self.text,
-            word.as_bytes(),
-            kind,
-            text,
-        )
+            characters,
+            &end.outcome,
+        );
+        meter.reuse_stem(end.outcome);
+        appended
     }
 }

@@ -2,7 +2,6 @@
 ghost use Rattle.std.specs.Prelude.{◌≡◌, ◌≤◌, ◌⊎◌, [], None, Err, Result, IfErr, OnOk};
 ghost use Rattle.sbl_ast.specs.Source.{Source};
 ghost use Rattle.sbl_batch.specs.HeldRows.{ReadsToEndOf};
-ghost use Rattle.sbl_batch.specs.LineWriter.{IsBetweenLines};
 ghost use Rattle.sbl_batch.specs.ToEnd.{FiltersToEnd, with_line, without_line};
 ghost use Rattle.sbl_io.specs.Devices.{HasStopped, WritesInTime};
 ghost use Rattle.sbl_io.specs.HeldInput.{KeepsTime, input_of as input, reads_bound};
@@ -32,7 +31,6 @@ fn read_lines<R: Source + Drop, W: Sink>(
 ) -> Result<(), LoadFault>
     requires first { line.old ≡ 1 }
     requires made { (s : Source) × IsLinkedMachineOf machine.now s }
-    requires between { IsBetweenLines rows.old.lines }
     requires none { rows.old.text.items ≡ [] }
     ensures reads { (s : Source) → IsLinkedMachineOf machine.now s → lines.old.fault ≡ None → ReadsToEndOf R.left W.held s lines.old lines.new writer.old writer.new rows.new.text.items line.new result }
     ensures remembered { lines.old.fault ≡ None → lines.new.fault ≡ left_by_load result }

@@ -6,9 +6,9 @@ ghost use Rattle.sbl_rows.specs.Rows.{row_of};
 ghost use Rattle.sbl_semantics.specs.Limit.{default_limit, max_word_length};
 ghost use Rattle.sbl_bench.specs.Contents.{IsFaultOrMemory, word_fault};
 ghost use Rattle.sbl_rows.specs.Setting.{under};
-ghost use Rattle.sbl_io.specs.RecordsWritten.{HasWritten, Writes};
+ghost use Rattle.sbl_io.specs.Records.{record_line};
 ghost use Rattle.sbl_input.specs.WordLists.{texts_of};
-ghost use Rattle.std.specs.Prelude.{◌≡◌, ◌≤◌, [], List, ℕ, None, length, map, slice_index_or, IfOk, IfErr, OnOk};
+ghost use Rattle.std.specs.Prelude.{◌≡◌, ◌≤◌, ◌++◌, [], ℕ, None, length, map, slice_index_or, IfErr, OnOk};
 ghost use Rattle.sbl_bench.specs.Vocabulary.{with_word};
 ghost use Rattle.sbl_reports.specs.RowRecords.{row_fields};
 ghost use Rattle.sbl_script.specs.ParsedScript.{source_of};
@@ -35,7 +35,7 @@ impl VocabularyRows {
     /// Returns no words. They are found by a hash with these keys. Does not allocate.
     fn new(alloc: Global, keys: WordKeys) -> VocabularyRows
         ensures words { texts_of result.words.keys ≡ [] }
-        ensures rows { HasWritten result.records.writer [] }
+        ensures rows { result.records.text.items ≡ [] }
     {
         VocabularyRows {
             alloc,
@@ -63,7 +63,7 @@ impl VocabularyRows {
     /// Appends words as `push` does, in their order, and then runs the script on them and writes their rows.
     fn push_all(&mut self, machine: &Machine<Table>, words: Vec<Vec<char>>) -> Result<(), EditFault>
         requires { texts_of self.old.words.keys ≡ [] }
-        ensures { (s : Source) → IsLinkedMachineOf machine.now s → HasWritten self.old.records.writer [] → RowsOpen s (texts_of words.items) (λ text u. HasWritten self.new.records.writer text) result }
+        ensures { (s : Source) → IsLinkedMachineOf machine.now s → self.old.records.text.items ≡ [] → RowsOpen s (texts_of words.items) (λ text u. self.new.records.text.items ≡ text) result }
     {
         self.words.reserve(words.len().min(MAX_WORDS))?;
         for word in words {
@@ -79,9 +79,9 @@ impl VocabularyRows {
         Ok(())
     }
 
-    /// Returns the text of the rows, and does not free the words. Returns `AllocError` if an allocation fails.
-    fn into_text(self) -> Result<Vec<u8>, AllocError>
-        ensures { (text : List ℕ) → HasWritten self.records.writer text → IfOk result (λ bytes. bytes.items ≡ text) }
+    /// Returns the text of the rows, and does not free the words.
+    fn into_text(self) -> Vec<u8>
+        ensures { result.items ≡ self.records.text.items }
     {
         let VocabularyRows {
             alloc: _,
@@ -118,7 +118,7 @@ fn write_rows(
     words: &[Vec<char>],
 ) -> Result<(), AllocError>
     requires { (k : ℕ) → length (slice_index_or (texts_of words.now) k []) ≤ max_word_length }
-    ensures { (s : Source) → IsLinkedMachineOf machine.now s → HasWritten records.old.writer [] → OnOk result (HasWritten records.new.writer (text_of_rows s (texts_of words.now))) }
+    ensures { (s : Source) → IsLinkedMachineOf machine.now s → records.old.text.items ≡ [] → OnOk result (records.new.text.items ≡ text_of_rows s (texts_of words.now)) }
 {
     for word in words {
         write_row(alloc, machine, meter, records, word.as_slice())?;
@@ -135,7 +135,7 @@ fn write_row(
     word: &[char],
 ) -> Result<(), AllocError>
     requires { length word.now ≤ max_word_length }
-    ensures { (s : Source) → IsLinkedMachineOf machine.now s → OnOk result (Writes (row_fields (row_of (under s default_limit) word.now)) records.old.writer records.new.writer) }
+    ensures { (s : Source) → IsLinkedMachineOf machine.now s → OnOk result (records.new.text.items ≡ records.old.text.items ++ record_line (row_fields (row_of (under s default_limit) word.now))) }
 {
     // A vocabulary has fewer words than a meter counts, so the only error is a failed allocation.
     let Ok(end) = machine.run_untraced(alloc, meter, word, DEFAULT_LIMIT) else {
@@ -168,5 +168,5 @@ pub(crate) fn vocabulary_rows(
         rows.discard();
         return Err(fault);
     }
-    Ok(rows.into_text()?)
+    Ok(rows.into_text())
 }

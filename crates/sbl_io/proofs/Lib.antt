@@ -5,3 +5,4 @@ pub mod Taking
 pub mod ReportFacts
 pub mod HeldFacts
 pub mod ReadingFacts
+pub mod PlainLines

@@ -125,7 +125,7 @@ fn is_quoted(field: &[u8]) -> bool
 
 /// Returns whether a field with this byte is between quotes.
 #[inline(always)]
-fn is_special(byte: u8) -> bool
+pub(crate) fn is_special(byte: u8) -> bool
     ensures { result ≡ needs_byte flexible byte }
 {
     byte == b',' || byte == b'"' || byte == b'\r' || byte == b'\n'

@@ -3,6 +3,8 @@ ghost use Rattle.std.specs.Prelude.{◌≡◌, ◌≤◌, ◌<◌, ◌+◌, ◌%
 ghost use Rattle.std.specs.Char.{encode_utf8};
 ghost use Rattle.std.specs.Str.{encode_utf8_all};
 
+mod line;
+
 use std::alloc::{AllocError, Global};
 
 /// Room for one text after another.

@@ -1,5 +1,4 @@
 pub mod BlockFacts
-pub mod WriterFacts
 pub mod RowFacts
 pub mod FindFacts
 pub mod FamilyFacts

@@ -18,7 +18,7 @@ pub use block_text::{BlockFault, BlockText, read_block, text_of_lines};
 pub use families::families_text;
 pub use listings::rows_text;
 pub use lookups::{found_text, stem_text};
-pub use record_writer::{RecordWriter, outcome_fields};
+pub use record_writer::{RecordWriter, append_row};
 pub use records::{Record, records_text, records_text_in_one_pass};
 pub use reports::{largest_text, stats_text};
 pub use word_lists::{ListForm, word_list};

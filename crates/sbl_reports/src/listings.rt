@@ -19,5 +19,5 @@ pub fn rows_text(alloc: Global, bench: &Bench) -> Result<Vec<u8>, AllocError>
             writer.push(&row)?;
         }
     }
-    writer.into_text()
+    Ok(writer.into_text())
 }

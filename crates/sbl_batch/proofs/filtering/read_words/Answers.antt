@@ -8,7 +8,6 @@ use Rattle.sbl_batch.proofs.filtering.read_words.Goals as goal
 
 pub loop-lines-init : goal.loop-lines-init
 loop-lines-init g c = record {
-  between = c.requires.between;
   words = λ s made. ([], words-none s _ _ _ c.requires.none);
   fault = refl;
   read = refl;
@@ -81,7 +80,6 @@ loop-lines-preserved g c =
     let t = c.write_due.new.self.text.items in
     let u = c.filter_line.new.rows.text.items in
     record {
-      between = c.in_ok-filter_line.ensures.between;
       words = λ s made.
           let so = inv.words s made in
           let moved = words-moved so.1 (g.W.Sink.held c.write_due.new.writer) t c.in_ok-write_due.ensures.part in

@@ -8,7 +8,6 @@ use Rattle.sbl_batch.proofs.to_end.read_lines.Goals as goal
 
 pub loop-lines-init : goal.loop-lines-init
 loop-lines-init g c = record {
-  between = c.requires.between;
   words = λ s made. ([], lines-none s _ _ _ c.requires.none, c.requires.first);
   fault = refl;
   read = refl;
@@ -70,7 +69,6 @@ loop-lines-preserved g c =
     let t = c.write_due.new.self.text.items in
     let u = c.filter_line.new.rows.text.items in
     record {
-      between = c.in_ok-filter_line.ensures.between;
       words = λ s made.
           let so = inv.words s made in
           let moved = lines-moved so.1 (g.W.Sink.held c.write_due.new.writer) t c.in_ok-write_due.ensures.part in

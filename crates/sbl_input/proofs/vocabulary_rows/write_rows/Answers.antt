@@ -7,7 +7,6 @@ use Rattle.sbl_rows.specs.Setting.{under}
 use Rattle.sbl_semantics.specs.Limit.{default_limit}
 use Rattle.sbl_reports.specs.RowRecords.{row_fields}
 use Rattle.sbl_io.specs.Records.{record_line}
-use Rattle.sbl_io.specs.RecordsWritten.{HasWritten}
 use Rattle.sbl_input.specs.VocabularyRows.{text_of_rows}
 use Rattle.sbl_input.specs.WordLists.{texts_of}
 use Rattle.sbl_input.proofs.VocabularyFacts.{rows-taken, text-at}
@@ -23,13 +22,14 @@ pub loop-word-preserved : goal.loop-word-preserved
 loop-word-preserved c = λ s made old.
     let words = c.args.words.now in
     let i = c.loop-word.word-index in
-    let rows = text_of_rows s (texts_of (take i words)) in
-    let text = ap (λ (w : List ℕ). rows ++ record_line (row_fields (row_of (under s default_limit) w))) c.as_slice.ensures.value
-    ∙ rows-taken s words i c.word-item.result c.loop-word-test.true c.word-item.is in
-    subst (HasWritten c.write_row.new.records.writer) text (c.in_ok-write_row.ensures s made rows (c.loop-word.invariant s made old))
+    let row = λ (w : List ℕ). record_line (row_fields (row_of (under s default_limit) w)) in
+    c.in_ok-write_row.ensures s made
+    ∙ ap (λ (t : List ℕ). t ++ row c.as_slice.result.now) (c.loop-word.invariant s made old)
+    ∙ ap (λ (w : List ℕ). text_of_rows s (texts_of (take i words)) ++ row w) c.as_slice.ensures.value
+    ∙ rows-taken s words i c.word-item.result c.loop-word-test.true c.word-item.is
 
 pub returns : goal.returns
 returns c = λ s made old.
     let words = c.args.words.now in
     let all : take c.loop-word.word-index words ≡ words = take_all c.loop-word.word-index words (omega (arith, c.loop-word-test.false)) in
-    subst (λ (ws : List (Vec ℕ Global)). HasWritten c.loop-word.records.writer (text_of_rows s (texts_of ws))) all (c.loop-word.invariant s made old)
+    c.loop-word.invariant s made old ∙ ap (λ (ws : List (Vec ℕ Global)). text_of_rows s (texts_of ws)) all

@@ -7,7 +7,6 @@ use Rattle.sbl_bench.specs.Contents.{opening_fault}
 use Rattle.sbl_bench.specs.inside.ProofNames.{with_all}
 use Rattle.sbl_reports.specs.Listings.{stems_text}
 use Rattle.sbl_reports.specs.declared.record_writer.RecordWriter.{RecordWriter}
-use Rattle.sbl_io.specs.RecordsWritten.{HasWritten}
 use Rattle.sbl_input.specs.VocabularyRows.{text_of_rows}
 use Rattle.sbl_input.specs.WordLists.{texts_of}
 use Rattle.sbl_input.proofs.VocabularyFacts.{vocabulary-fits}
@@ -34,5 +33,5 @@ returns c = λ s made begins.
     let done : rest ≡ [] = nil_from_length rest zero in
     let none = inv.0 ∙ ap (λ (r : List (Vec ℕ Global)). opening_fault keys (texts_of r)) done in
     let all = inv.1 ∙ ap (λ (r : List (Vec ℕ Global)). with_all keys (texts_of r)) done in
-    let old = subst (λ (r : RecordWriter). HasWritten r.writer []) (sym inv.2) begins in
-    (none, subst (λ (ws : List (List ℕ)). HasWritten c.write_rows.new.records.writer (text_of_rows s ws)) (ap texts_of c.as_slice.ensures.keys ∙ sym all) (c.in_ok-write_rows.ensures s made old))
+    let old = ap (λ (r : RecordWriter). r.text.items) inv.2 ∙ begins in
+    (none, c.in_ok-write_rows.ensures s made old ∙ ap (λ (ws : List (Vec ℕ Global)). text_of_rows s (texts_of ws)) c.as_slice.ensures.keys ∙ ap (text_of_rows s) (sym all))

@@ -1,0 +1,6 @@
+use Rattle.std.specs.Str.{encode_utf8_all}
+use Rattle.sbl_io.proofs.PlainLines.{line_written}
+use Rattle.sbl_io.proofs.text_buffer.line.put_line.Goals as goal
+
+pub returns-clause-line : goal.returns-clause-line
+returns-clause-line c = line_written (encode_utf8_all c.args.first.now) c.args.middle.now (encode_utf8_all c.args.last.now) _ _ _ _ _ _ ?
