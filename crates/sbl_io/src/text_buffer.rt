@@ -1,13 +1,12 @@
-//! Characters as UTF-8, in a buffer that is used again.
-ghost use Rattle.std.specs.Prelude.{◌≡◌, ◌≤◌, ◌<◌, ◌+◌, ◌%◌, ◌*◌, ◌++◌, ◌∷◌, [], IfOk, length, take};
+//! Lines of rows, in a buffer that is used again.
+ghost use Rattle.std.specs.Prelude.{◌≡◌, ◌≤◌, ◌<◌, ◌+◌, ◌%◌, ◌++◌, ◌∷◌, [], length, take};
 ghost use Rattle.std.specs.Char.{encode_utf8};
-ghost use Rattle.std.specs.Str.{encode_utf8_all};
 
 mod line;
 
-use std::alloc::{AllocError, Global};
+use std::alloc::Global;
 
-/// Room for one text after another.
+/// Room for one line after another.
 #[derive(Drop)]
 pub struct TextBuffer {
     room: Vec<u8>,
@@ -20,32 +19,6 @@ impl TextBuffer {
             room: Vec::new(alloc),
         }
     }
-
-    /// Returns the characters as UTF-8. Allocates only for a text that is longer than all before it, and returns `AllocError` if
-    /// that fails.
-    pub fn encode(&mut self, characters: &[char]) -> Result<&[u8], AllocError>
-        ensures { IfOk result (λ text. text.now ≡ encode_utf8_all characters.now) }
-    {
-        let most = characters.len().checked_mul(4).ok_or(AllocError)?;
-        if self.room.len() < most {
-            self.room.resize(most, 0)?;
-        }
-        let end = put_all(self.room.as_mut_slice(), characters);
-        Ok(&self.room[..end])
-    }
-}
-
-/// Writes the characters to the beginning of the room, and returns their end.
-fn put_all(room: &mut [u8], characters: &[char]) -> usize
-    requires { 4 * length characters.now ≤ length room.old }
-    ensures inside { result ≤ length room.new }
-    ensures text { take result room.new ≡ encode_utf8_all characters.now }
-{
-    let mut end = 0;
-    for c in characters {
-        end = put_character(room, end, *c);
-    }
-    end
 }
 
 /// Writes a character after the text that ends at `at`, and returns its end.
