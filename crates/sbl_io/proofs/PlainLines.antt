@@ -20,15 +20,7 @@ one_byte_code c low =
 byte_plain : (b : ℕ) → 44 < b → needs_byte flexible b ≡ false
 byte_plain b high = grind (arith, tests, high)
 
--- a character up to the comma is its own byte
-pub low_code : (c : ℕ) (special : Bool) → c < 45 → special ≡ needs_byte flexible c → special ≡ needs_quotes flexible (encode_utf8 c)
-low_code c special low is = is ∙ sym (or_off (needs_byte flexible c)) ∙ ap (needs_quotes flexible) (sym (one_byte_code c (omega (arith, low))))
-  where
-    or_off : (b : Bool) → (b || false) ≡ b
-    or_off true = refl
-    or_off false = refl
-
--- one after it has no byte up to the comma
+-- a character after the comma has no byte up to the comma
 pub high_code : (c : ℕ) → 44 < c → needs_quotes flexible (encode_utf8 c) ≡ false
 high_code c high = one (nat_lt c 128) refl
   where

@@ -1,3 +1,6 @@
-use Rattle.std.proofs.Common.{sym, arith}
-use Rattle.sbl_io.proofs.PlainLines.{low_code, high_code}
+use Rattle.std.proofs.Common.{sym}
+use Rattle.sbl_io.proofs.PlainLines.{high_code}
 use Rattle.sbl_io.proofs.text_buffer.line.is_special_character.Goals as goal
+
+pub returns-else-c-le44 : goal.returns-else-c-le44
+returns-else-c-le44 c = sym (high_code c.args.c c.if-c-le44.false)

@@ -3,4 +3,8 @@ use Rattle.sbl_io.proofs.PlainLines.{line_written}
 use Rattle.sbl_io.proofs.text_buffer.line.put_line.Goals as goal
 
 pub returns-clause-line : goal.returns-clause-line
-returns-clause-line c = line_written (encode_utf8_all c.args.first.now) c.args.middle.now (encode_utf8_all c.args.last.now) _ _ _ _ _ _ ?
+returns-clause-line c =
+    line_written (encode_utf8_all c.args.first.now) c.args.middle.now (encode_utf8_all c.args.last.now) _ _ _ _ _ _
+    c.in_some-first_end.ensures.text c.put-begin.ensures.text c.in_some-middle_end.ensures.text c.put-next.ensures.text
+    c.in_some-last_end.ensures.text c.put.ensures.text
+    c.in_some-first_end.ensures.plain c.in_some-middle_end.ensures.plain c.in_some-last_end.ensures.plain
