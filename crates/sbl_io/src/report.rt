@@ -113,7 +113,8 @@ fn field_length(field: &[u8]) -> usize
 }
 
 /// Returns whether a field is between quotes.
-fn is_quoted(field: &[u8]) -> bool
+#[inline(always)]
+pub(crate) fn is_quoted(field: &[u8]) -> bool
     ensures { result ≡ needs_quotes flexible field.now }
 {
     let mut is_quoted = false;

@@ -7,7 +7,7 @@ ghost use Rattle.sbl_io.specs.Records.{flexible};
 ghost use Rattle.sbl_io.specs.Records as spec;
 
 use crate::records::{push_text, record_line};
-use crate::report::is_special;
+use crate::report::{is_quoted, is_special};
 use crate::text_buffer::{TextBuffer, put, put_character};
 use csv::ByteRecord;
 use std::alloc::{AllocError, Global};
@@ -87,9 +87,12 @@ fn put_line(room: &mut [u8], first: &[char], middle: &[u8], last: &[char]) -> Op
     ensures inside { IfSome result (λ end. end ≤ length room.new) }
     ensures line { IfSome result (λ end. take end room.new ≡ spec.record_line (encode_utf8_all first.now ∷ middle.now ∷ encode_utf8_all last.now ∷ [])) }
 {
+    if is_quoted(middle) {
+        return None;
+    }
     let first_end = put_plain(room, 0, first)?;
     let begin = put(room, first_end, b',');
-    let middle_end = put_bytes(room, begin, middle)?;
+    let middle_end = put_bytes(room, begin, middle);
     let next = put(room, middle_end, b',');
     let last_end = put_plain(room, next, last)?;
     Some(put(room, last_end, b'\n'))
@@ -114,23 +117,19 @@ fn put_plain(room: &mut [u8], from: usize, characters: &[char]) -> Option<usize>
     Some(end)
 }
 
-/// Writes bytes after the text that ends at `from`, and returns their end. Returns `None` if `csv` quotes them.
+/// Writes bytes after the text that ends at `from`, and returns their end.
 #[inline(always)]
-fn put_bytes(room: &mut [u8], from: usize, bytes: &[u8]) -> Option<usize>
+fn put_bytes(room: &mut [u8], from: usize, bytes: &[u8]) -> usize
     requires { from + length bytes.now ≤ length room.old }
     ensures room { length room.new ≡ length room.old }
-    ensures end { IfSome result (λ end. end ≡ from + length bytes.now) }
-    ensures text { IfSome result (λ end. take end room.new ≡ take from room.old ++ bytes.now) }
-    ensures plain { IfSome result (λ end. needs_quotes flexible bytes.now ≡ false) }
+    ensures end { result ≡ from + length bytes.now }
+    ensures text { take result room.new ≡ take from room.old ++ bytes.now }
 {
     let mut end = from;
     for byte in bytes {
-        if is_special(*byte) {
-            return None;
-        }
         end = put(room, end, *byte);
     }
-    Some(end)
+    end
 }
 
 /// Returns whether `csv` quotes a field with this character.
