@@ -7,4 +7,4 @@ use Rattle.sbl_batch.proofs.row_writer.RowWriter.push_row.Goals as goal
 pub returns-clause-row : goal.returns-clause-row
 returns-clause-row c = λ s made.
     let fields = row-is s c.args.characters.now (outcome_of c.in-Ok.end.outcome) (c.in-Ok.ensures.outcome s made) in
-    subst (λ (r : List (List ℕ)). OnOk c.append_row.result (c.append_row.new.rows.items ≡ c.args.self.now.text.items ++ record_line r)) fields c.append_row.ensures.row
+    subst (λ (r : List (List ℕ)). OnOk c.append_row-appended.result (c.append_row-appended.new.rows.items ≡ c.args.self.now.text.items ++ record_line r)) fields c.append_row-appended.ensures.row
