@@ -58,6 +58,12 @@ all-fit words (x ∷ xs) fit none =
 pub vocabulary-fits : (xs : List (List ℕ)) → opening_fault [] xs ≡ None → (k : ℕ) → length (slice_index_or (vocabulary xs) k []) ≤ max_word_length
 vocabulary-fits xs none = all-fit [] xs (λ k. omega arith) none
 
+-- what the words up to the last one say of all
+pub all-taken : (words rest : List (Vec ℕ Global)) (keys : List (List ℕ)) → length rest ≡ 0 → opening_fault [] (texts_of words) ≡ opening_fault keys (texts_of rest)
+    → vocabulary (texts_of words) ≡ with_all keys (texts_of rest) → (opening_fault [] (texts_of words) ≡ None) × (vocabulary (texts_of words) ≡ keys)
+all-taken words [] keys none fault all = (fault, all)
+all-taken words (x ∷ rest) keys none fault all = absurd (omega (arith, none))
+
 -- ---- rows
 
 pub text-at : (words : List (Vec ℕ Global)) (i : ℕ) (word : Vec ℕ Global) → i < length words → word ≡ slice_index_or words i word
