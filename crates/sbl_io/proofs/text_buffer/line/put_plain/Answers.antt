@@ -9,6 +9,6 @@ loop-c-preserved c =
     let inv = c.loop-c.invariant in (
       omega (arith, c.put_character-end.ensures.end, inv.0),
       c.put_character-end.ensures.room ∙ inv.1,
-      text_more (take c.args.from c.args.room.now) xs i c.c-item.result _ _ c.loop-c-test.true c.c-item.is inv.2.0 c.put_character-end.ensures.text,
-      plain_more xs i c.c-item.result c.loop-c-test.true c.c-item.is inv.2.1 (sym c.is_special_character.ensures ∙ c.if-is_special_character.false),
+      text_more (take c.args.from c.args.room.now) xs i c.c-item.result _ _ c.loop-c-test.true c.c-item.is inv.2 c.put_character-end.ensures.text,
+      plain_more xs i c.c-item.result c.loop-c-test.true c.c-item.is inv.3 (sym c.is_special_character.ensures ∙ c.if-is_special_character.false),
     )
