@@ -1,9 +1,10 @@
 -- What one more word does to a vocabulary and to the text of its rows.
-use Rattle.std.proofs.Common.{◌≡◌, ◌∙◌, ◌++◌, ◌+◌, ◌≤◌, ◌<◌, ℕ, zero, suc, Bool, true, false, true≢false, List, [], ◌∷◌, length, take, Option, Some, None, Result, Ok, Err, is_some, map, refl, sym, ap, subst, arith, tests}
+use Rattle.std.proofs.Common.{◌≡◌, ◌∙◌, ◌++◌, ◌+◌, ◌≤◌, ◌<◌, ℕ, zero, suc, Bool, true, false, true≢false, List, [], ◌∷◌, length, take, Option, Some, None, Result, Ok, Err, is_some, map, refl, sym, ap, subst, arith}
 use Rattle.std.specs.Prelude.{nat_lt, slice_index_or}
 use Rattle.std.specs.Option.{option_or}
 use Rattle.std.specs.declared.vec.Vec.{Vec}
 use Rattle.std.specs.declared.alloc.Global.{Global}
+use Rattle.std.proofs.lemmas.Bool.Decides.{nat_tests}
 use Rattle.std.proofs.lemmas.List.{flat_map_more, map-append, take_more}
 use Rattle.sbl_ast.specs.Source.{Source}
 use Rattle.sbl_bench.specs.Contents.{IsFaultOrMemory, opening_fault, word_fault}
@@ -27,7 +28,7 @@ word-fits words w none = by (nat_lt max_word_length (length w)) refl
   where
     by : (b : Bool) → nat_lt max_word_length (length w) ≡ b → length w ≤ max_word_length
     by true h = let refused : word_fault words w ≡ Some WordTooLong = rw h refl in absurd (true≢false (ap is_some (sym refused ∙ none)))
-    by false h = omega (arith, tests, h)
+    by false h = grind (arith, nat_tests, h)
 
 last-fits : (words : List (List ℕ)) (w : List ℕ) (k : ℕ) → length (slice_index_or words k []) ≤ max_word_length → length w ≤ max_word_length
     → length (slice_index_or (words ++ w ∷ []) k []) ≤ max_word_length

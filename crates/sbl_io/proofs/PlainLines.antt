@@ -4,6 +4,7 @@ use Rattle.std.specs.Prelude.{◌||◌, if◌then◌else◌}
 use Rattle.std.specs.Char.{encode_utf8}
 use Rattle.std.specs.Str.{encode_utf8_all}
 use Rattle.std.specs.List.{list_any}
+use Rattle.std.proofs.lemmas.Bool.Decides.{nat_tests}
 use Rattle.std.proofs.lemmas.List.Folds.{list_any-append}
 use Rattle.csv.specs.Writing.{field_text, fields_text, is_blank, needs_byte, needs_quotes, quoted}
 use Rattle.sbl_io.specs.Records.{flexible, record_line}
@@ -26,20 +27,20 @@ high_code c high = one (nat_lt c 128) refl
   where
     four : nat_lt c 2048 ≡ false → (b : Bool) → nat_lt c 65536 ≡ b → needs_quotes flexible (encode_utf8 c) ≡ false
     four more true h =
-        ap (needs_quotes flexible) (three_byte_code c (grind (arith, tests, more)) (grind (arith, tests, h)))
+        ap (needs_quotes flexible) (three_byte_code c (grind (arith, nat_tests, more)) (grind (arith, nat_tests, h)))
         ∙ rw (byte_plain _ (omega arith), byte_plain _ (omega arith), byte_plain _ (omega arith)) refl
     four more false h =
-        ap (needs_quotes flexible) (four_byte_code c (grind (arith, tests, h)))
+        ap (needs_quotes flexible) (four_byte_code c (grind (arith, nat_tests, h)))
         ∙ rw (byte_plain _ (omega arith), byte_plain _ (omega arith), byte_plain _ (omega arith), byte_plain _ (omega arith)) refl
 
     two : nat_lt c 128 ≡ false → (b : Bool) → nat_lt c 2048 ≡ b → needs_quotes flexible (encode_utf8 c) ≡ false
     two more true h =
-        ap (needs_quotes flexible) (two_byte_code c (grind (arith, tests, more)) (grind (arith, tests, h)))
+        ap (needs_quotes flexible) (two_byte_code c (grind (arith, nat_tests, more)) (grind (arith, nat_tests, h)))
         ∙ rw (byte_plain _ (omega arith), byte_plain _ (omega arith)) refl
     two more false h = four h (nat_lt c 65536) refl
 
     one : (b : Bool) → nat_lt c 128 ≡ b → needs_quotes flexible (encode_utf8 c) ≡ false
-    one true h = ap (needs_quotes flexible) (one_byte_code c (grind (arith, tests, h))) ∙ rw (byte_plain c high) refl
+    one true h = ap (needs_quotes flexible) (one_byte_code c (grind (arith, nat_tests, h))) ∙ rw (byte_plain c high) refl
     one false h = two h (nat_lt c 2048) refl
 
 -- ---- one more character, and one more byte
