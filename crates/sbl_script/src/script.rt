@@ -119,6 +119,20 @@ fn terms_of_tokens(
     parse_terms(alloc, tokens, end)
 }
 
+/// Returns the script with a text in place of a whole definition.
+macro_rules! with_part {
+    ($self:ident, $alloc:ident, $name:ident, $text:ident; $part:ident, $find:ident, $missing:ident; $read:ident: $parse:ident => $make:ident) => {{
+        let Some(_replaced) = edits::$find(&$self.items, $name) else {
+            return Err(EditFault::$missing);
+        };
+        let found = $self.tokens_in($alloc, Part::$part($name), $text)?;
+        let $read = $parse($alloc, &found, $text.len())?;
+        let new = edits::$make($alloc, $name, $read)?;
+        let script = $self.with_definition($alloc, Part::$part($name), new)?;
+        Ok(script)
+    }};
+}
+
 /// A script that has passed all checks, with the name of the external that is run.
 #[derive(Drop)]
 pub struct Script {
@@ -251,14 +265,7 @@ impl Script {
         ensures fault { IfErr result (λ f. (f ≡ EditFault.OutOfMemory) ⊎ IsEditFault (source_of self.now) (Routine name.now) text.now f) }
         ensures missing { (f : EditFault) → text_for (source_of self.now).items (Routine name.now) ≡ Err f → result ≡ Err f }
     {
-        let Some(_replaced) = edits::routine_of(&self.items, name) else {
-            return Err(EditFault::NoRoutine);
-        };
-        let found = self.tokens_in(alloc, Part::Routine(name), text)?;
-        let body = body_of_tokens(alloc, &found, text.len())?;
-        let new = edits::routine(alloc, name, body)?;
-        let script = self.with_definition(alloc, Part::Routine(name), new)?;
-        Ok(script)
+        with_part!(self, alloc, name, text; Routine, routine_of, NoRoutine; body: body_of_tokens => routine)
     }
 
     fn with_nth_among(
@@ -295,14 +302,7 @@ impl Script {
         ensures fault { IfErr result (λ f. (f ≡ EditFault.OutOfMemory) ⊎ IsEditFault (source_of self.now) (Grouping name.now) text.now f) }
         ensures missing { (f : EditFault) → text_for (source_of self.now).items (Grouping name.now) ≡ Err f → result ≡ Err f }
     {
-        let Some(_replaced) = edits::grouping_of(&self.items, name) else {
-            return Err(EditFault::NoGrouping);
-        };
-        let found = self.tokens_in(alloc, Part::Grouping(name), text)?;
-        let terms = terms_of_tokens(alloc, &found, text.len())?;
-        let new = edits::grouping(alloc, name, terms)?;
-        let script = self.with_definition(alloc, Part::Grouping(name), new)?;
-        Ok(script)
+        with_part!(self, alloc, name, text; Grouping, grouping_of, NoGrouping; terms: terms_of_tokens => grouping)
     }
 
     /// Returns the tokens of a text, read where the definition that the part is in begins.
