@@ -125,7 +125,7 @@ fn defines(plain: &Plain, name: &str) -> bool
 
 /// Returns the item, or those of a `backwardmode`.
 fn plains_of(item: &ScriptItem) -> &[Plain]
-    ensures { (p : trees.Plain → Bool) (rest : List trees.Item) → homes.first_passing p (view_item item.now ∷ rest) ≡ option_or (homes.first_in p (map view_plain result.now)) (homes.first_passing p rest) }
+    ensures { (p : trees.Plain → Bool) (is : List trees.Item) → homes.first_passing p (view_item item.now ∷ is) ≡ option_or (homes.first_in p (map view_plain result.now)) (homes.first_passing p is) }
 {
     match item {
         ScriptItem::Plain(plain) => from_ref(plain),
