@@ -2,16 +2,12 @@
 ghost use Rattle.std.specs.Prelude.{◌≡◌, ◌≤◌, ◌++◌, [], ℕ, length, take, false, Ok, IfErr, OnErr, OnOk};
 ghost use Rattle.std.specs.Str.{chars};
 ghost use Rattle.std.specs.Io.KnownBytes.{Appends};
-ghost use Rattle.sbl_rows.specs.Rows.{row_of};
-ghost use Rattle.sbl_rows.specs.Setting.{under};
-ghost use Rattle.sbl_semantics.specs.Limit.{default_limit, max_word_length};
+ghost use Rattle.sbl_semantics.specs.Limit.{max_word_length};
 ghost use Rattle.sbl_machine.specs.MachineOf.{IsLinkedMachineOf};
 ghost use Rattle.sbl_io.specs.Devices.{HasStopped, WritesInTime};
-ghost use Rattle.sbl_io.specs.Records.{record_line};
 ghost use Rattle.sbl_ast.specs.Source.{Source};
-ghost use Rattle.sbl_batch.specs.HeldRows.{WritesPart};
+ghost use Rattle.sbl_batch.specs.HeldRows.{WritesPart, word_line};
 ghost use Rattle.sbl_batch.specs.LineWriter.{IsBetweenLines};
-ghost use Rattle.sbl_reports.specs.RowRecords.{row_fields};
 
 use crate::lines::{line_writer, push_line};
 use csv::Writer;
@@ -117,7 +113,7 @@ impl RowWriter {
         requires is { characters.now ≡ chars word.now }
         requires fits { length characters.now ≤ max_word_length }
         requires between { IsBetweenLines self.old.lines }
-        ensures row { (s : Source) → IsLinkedMachineOf machine.now s → OnOk result (self.new.text.items ≡ self.old.text.items ++ record_line (row_fields (row_of (under s default_limit) (chars word.now)))) }
+        ensures row { (s : Source) → IsLinkedMachineOf machine.now s → OnOk result (self.new.text.items ≡ self.old.text.items ++ word_line s (chars word.now)) }
         ensures stays { OnErr result (self.new.text.items ≡ self.old.text.items) }
         ensures between { OnOk result (IsBetweenLines self.new.lines) }
     {
