@@ -4,7 +4,9 @@ ghost use Rattle.sbl_bench.specs.KeptRuns.{contents_of};
 ghost use Rattle.sbl_work.specs.WholeWork.{IsOpened};
 
 use crate::appending::{Added, lines_to_append};
+use crate::observing::RefusedSource;
 use sbl_bench::{Bench, WordKeys};
+use sbl_explain::KeptTakes;
 use sbl_history::{has_crlf, push_crlf};
 use sbl_input::{LoadFault, words_in};
 use sbl_reports::stem_lines;
@@ -28,6 +30,18 @@ pub struct Paths {
     pub from: Option<String>,
     /// The file whose existence breaks an edit off, if there is one.
     pub stop: Option<String>,
+}
+
+/// The files of work, the bytes that were read last from the file of the script, the words that were added, what is kept for
+/// questions about uses, and the text that the last request was refused for.
+#[derive(Drop)]
+pub(crate) struct Folder<'a, F> {
+    pub(crate) files: &'a F,
+    pub(crate) paths: &'a Paths,
+    pub(crate) seen: Vec<u8>,
+    pub(crate) added: Added,
+    pub(crate) kept: KeptTakes,
+    pub(crate) refused: Option<RefusedSource>,
 }
 
 /// The bytes that work begins with.
@@ -149,28 +163,28 @@ fn is_words<F: Files>(files: &F, paths: &Paths, path: &str) -> bool {
 }
 
 /// Writes the text of the current script to a file. The file of the script, by whatever name, is written only if it still has the
-/// bytes that were read from it last, `seen`.
+/// bytes that were read from it last.
 ///
 /// # Errors
 ///
 /// Returns the faults of `save_file`, and `NotWritten` also for the file of words.
 pub(crate) fn save<F: Files + AllocGlobal>(
-    files: &F,
-    paths: &Paths,
-    seen: &mut Vec<u8>,
+    folder: &mut Folder<'_, F>,
     path: &str,
     text: Vec<u8>,
 ) -> Result<(), SaveFault> {
+    let files = folder.files;
+    let paths = folder.paths;
     if is_words(files, paths, path) {
         return Err(SaveFault::NotWritten);
     }
     if !is_same_file(files, path, paths.script.as_str()) {
         return save_file(files, path, &text, Former::Any);
     }
-    let text = with_ends_of(files.alloc(), seen.as_slice(), text)?;
-    let saved = save_file(files, path, &text, Former::Bytes(seen.as_slice()));
+    let text = with_ends_of(files.alloc(), folder.seen.as_slice(), text)?;
+    let saved = save_file(files, path, &text, Former::Bytes(folder.seen.as_slice()));
     if saved.is_ok() || saved == Err(SaveFault::NotSettled) {
-        *seen = text;
+        folder.seen = text;
     }
     saved
 }
@@ -254,31 +268,31 @@ fn append_to<F: Files + AllocGlobal>(
 ///
 /// Returns the faults of `save_file`, and `NotWritten` also for another file, and if the path is empty and there is no file of words.
 pub(crate) fn append<F: Files + AllocGlobal>(
-    files: &F,
-    paths: &Paths,
-    added: &mut Added,
+    folder: &mut Folder<'_, F>,
     bench: &Bench,
     path: &str,
 ) -> Result<Vec<u8>, SaveFault> {
+    let files = folder.files;
+    let paths = folder.paths;
     let path = match &paths.words {
         Some(words) if path.is_empty() => words.as_str(),
         None if path.is_empty() => return Err(SaveFault::NotWritten),
         _ => path,
     };
-    let words = added.words(files.alloc(), bench)?;
+    let words = folder.added.words(files.alloc(), bench)?;
     if is_free(files, path) {
-        let made = added.name_to_make(files.alloc(), path)?;
+        let made = folder.added.name_to_make(files.alloc(), path)?;
         let appended = append_to(files, &words, path, &[], Former::Missing);
         let is_made = match &appended {
             Ok(lines) => !lines.is_empty(),
             Err(fault) => *fault == SaveFault::NotSettled,
         };
         if is_made {
-            added.note_made(made);
+            folder.added.note_made(made);
         }
         return appended;
     }
-    if !may_append(files, paths, added, path) || !is_ordinary(files, path) {
+    if !may_append(files, paths, &folder.added, path) || !is_ordinary(files, path) {
         return Err(SaveFault::NotWritten);
     }
     let old = match read_file(files, path) {
