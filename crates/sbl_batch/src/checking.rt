@@ -9,7 +9,7 @@ ghost use Rattle.sbl_io.specs.Devices.{HasStopped, WritesInTime};
 ghost use Rattle.sbl_batch.specs.Differences as spec;
 
 use csv::ByteRecord;
-use sbl_bench::{MAX_WORD_LENGTH, Progress};
+use sbl_bench::{MAX_WORD_LENGTH, NoProgress, Progress};
 use sbl_input::text_line;
 use sbl_io::{ServeFault, Sink, first_line, record_line, text_of, write_all};
 use sbl_machine::{DEFAULT_LIMIT, Machine, Meter, Outcome, RunEnd, Table};
@@ -134,7 +134,7 @@ fn compare<W: Sink>(
 /// same line of `expected`. Writes a row `LINE,WORD,EXPECTED,GOT` for each difference, with lines counted from 1, and
 /// returns the number of differences. GOT is the stem, or `refused NAME` if the run is refused; a word of more than 255
 /// characters is `refused WordTooLong`. A refusal is always a difference. A line ends at a line feed or at the end of
-/// its list; one carriage return before the end is dropped. `progress` sees how many lines were compared.
+/// its list; one carriage return before the end is dropped.
 ///
 /// # Errors
 ///
@@ -145,7 +145,23 @@ fn compare<W: Sink>(
 ///
 /// With the other errors a prefix of the rows is written: `Write` if the writer fails or is interrupted more than 1,000
 /// times in a row, and `OutOfMemory` if an allocation fails.
-pub fn check<W: Sink, P: Progress>(
+pub fn check<W: Sink>(
+    alloc: Global,
+    script: &Script,
+    words: &[u8],
+    expected: &[u8],
+    writer: &mut W,
+) -> Result<u64, ServeFault>
+    ensures checked { IsChecked (source_of script.now) words.now expected.now (W.held writer.old) (W.held writer.new) result }
+    ensures steady { OnOk result ((W.tally writer.new).failures ≡ (W.tally writer.old).failures) }
+    ensures why { IfErr result (λ fault. fault ≡ ServeFault.Write → HasStopped W.tally writer.old writer.new) }
+    ensures writes_in_time { WritesInTime W.tally writer.old writer.new }
+{
+    check_observed(alloc, script, words, expected, writer, &mut NoProgress {})
+}
+
+/// Does what `check` does. `progress` sees how many lines were compared.
+pub fn check_observed<W: Sink, P: Progress>(
     alloc: Global,
     script: &Script,
     words: &[u8],

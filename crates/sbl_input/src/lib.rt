@@ -10,4 +10,4 @@ mod word_list;
 
 pub use faults::LoadFault;
 pub use file_words::{text_line, without_mark, words_in};
-pub use loading::{load, load_rows, read_script};
+pub use loading::{load, load_observed, load_rows, load_with_keys, read_script};

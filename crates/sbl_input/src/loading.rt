@@ -17,7 +17,7 @@ ghost use Rattle.sbl_input.specs.Loading.{HasReason, IsLoaded, ReadsScript};
 use crate::faults::LoadFault;
 use crate::vocabulary_rows::vocabulary_rows;
 use crate::word_list::WordList;
-use sbl_bench::{Bench, EditFault, Progress, WordKeys};
+use sbl_bench::{Bench, EditFault, NoProgress, Progress, WordKeys};
 use sbl_io::{Lines, ServeFault, Source};
 use sbl_reports::{BlockFault, read_block};
 use sbl_script::{Script, ScriptFault};
@@ -158,7 +158,8 @@ fn open_words<P: Progress>(
 /// each followed by a line feed; it is read as a script with this external. The words are one per line, up to a line `.` or the
 /// end of input. The lines after that are left.
 ///
-/// The keys are those of the hash by which words are found, as in `Bench::open_with_keys`. `progress` sees how many words were run.
+/// The hash by which words are found has keys that are no secret, as in `Bench::open`. If the input comes from others, call
+/// `load_with_keys`.
 ///
 /// # Errors
 ///
@@ -171,7 +172,41 @@ fn open_words<P: Progress>(
 /// After `Cut`, the input is at its end. After a fault of the script, the next line is the one after its block. After
 /// `NotText`, it is the one after the line that is not UTF-8. The lines keep `Read` and `LineTooLong` and return them again,
 /// and so does every later `load`, which then reads nothing.
-pub fn load<R: Source + Drop, P: Progress>(
+pub fn load<R: Source + Drop>(lines: &mut Lines<R>, external: &str) -> Result<Bench, LoadFault>
+    ensures loaded { lines.old.fault ≡ None → IsLoaded (input_of R.left lines.old) (input_of R.left lines.new) external.now (λ b. contents_of b) result }
+    ensures later { (R.tally lines.old.reader).failures ≤ (R.tally lines.new.reader).failures }
+    ensures steady { OnOk result ((R.tally lines.new.reader).failures ≡ (R.tally lines.old.reader).failures) }
+    ensures why { IfErr result (λ fault. HasReason R.tally lines.old lines.new fault) }
+    ensures in_time { KeepsTime R.tally lines.old lines.new }
+    ensures remembered { lines.new.fault ≡ left_by_load result }
+    ensures again { (fault : LineFault) → lines.old.fault ≡ Some fault → (result ≡ Err (LoadFault.Input (serve_fault_of fault))) × Keeps (input_of R.left lines.old) (input_of R.left lines.new) }
+    ensures bound { reads_bound R.tally lines.new ≡ reads_bound R.tally lines.old }
+{
+    load_with_keys(lines, WordKeys::constant(), external)
+}
+
+/// Returns the same bench as `load`, or the same fault, and leaves the input as `load` does. The keys are those of the hash by which
+/// words are found, as in `Bench::open_with_keys`.
+pub fn load_with_keys<R: Source + Drop>(
+    lines: &mut Lines<R>,
+    keys: WordKeys,
+    external: &str,
+) -> Result<Bench, LoadFault>
+    ensures loaded { lines.old.fault ≡ None → IsLoaded (input_of R.left lines.old) (input_of R.left lines.new) external.now (λ b. contents_of b) result }
+    ensures later { (R.tally lines.old.reader).failures ≤ (R.tally lines.new.reader).failures }
+    ensures steady { OnOk result ((R.tally lines.new.reader).failures ≡ (R.tally lines.old.reader).failures) }
+    ensures why { IfErr result (λ fault. HasReason R.tally lines.old lines.new fault) }
+    ensures in_time { KeepsTime R.tally lines.old lines.new }
+    ensures remembered { lines.new.fault ≡ left_by_load result }
+    ensures again { (fault : LineFault) → lines.old.fault ≡ Some fault → (result ≡ Err (LoadFault.Input (serve_fault_of fault))) × Keeps (input_of R.left lines.old) (input_of R.left lines.new) }
+    ensures bound { reads_bound R.tally lines.new ≡ reads_bound R.tally lines.old }
+{
+    load_observed(lines, keys, external, &mut NoProgress {})
+}
+
+/// Returns the same bench as `load_with_keys`, or the same fault, and leaves the input as `load` does. `progress` sees how many words
+/// were run.
+pub fn load_observed<R: Source + Drop, P: Progress>(
     lines: &mut Lines<R>,
     keys: WordKeys,
     external: &str,

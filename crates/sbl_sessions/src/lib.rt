@@ -10,6 +10,6 @@ mod session_edits;
 mod watching;
 
 pub use replies::{BAD_COMMAND, Reply, edit_text, report, write_reply};
-pub use serving::{answer_line, answer_line_or_break, serve};
+pub use serving::{answer_line, answer_line_or_break, serve, serve_watched};
 pub use session_commands::{asks_block, keep_line, number_in, part_of};
 pub use watching::{NoWatch, RefusedEdit, Watch};

@@ -18,7 +18,7 @@ use crate::reports::{
 };
 use crate::session_commands::{Command, asks_block, command_of, keep_line};
 use crate::session_edits::{add_word, edit_script, remove_word};
-use crate::watching::{RefusedEdit, Watch};
+use crate::watching::{NoWatch, RefusedEdit, Watch};
 use sbl_bench::{Bench, BreakOff, EditFault};
 use sbl_io::{Lines, ServeFault, Sink, Source};
 use sbl_reports::read_block;
@@ -122,9 +122,6 @@ fn answer<R: Source + Drop>(bench: &mut Bench, lines: &mut Lines<R>) -> Result<A
 ///
 /// If an allocation fails, the reply is `no 49 OutOfMemory`.
 ///
-/// `watch` sees each reply, and each edit of the script that is refused: after its reply, before the next line is read. What it does
-/// has no part in the session.
-///
 /// # Errors
 ///
 /// Returns `Read` if the reader fails or a bound on reads or interruptions is reached, `Write` if the writer fails or is
@@ -134,7 +131,28 @@ fn answer<R: Source + Drop>(bench: &mut Bench, lines: &mut Lines<R>) -> Result<A
 /// After `Write`, the edit of the current request is made, a prefix of its reply is written, and the next line is the one after
 /// the request. The lines keep `Read` and `LineTooLong`: if they have returned one of them before, `serve` returns it again and
 /// does nothing.
-pub fn serve<R: Source + Drop, W: Sink, S: Watch>(
+pub fn serve<R: Source + Drop, W: Sink>(
+    bench: &mut Bench,
+    lines: &mut Lines<R>,
+    writer: &mut W,
+) -> Result<(), ServeFault>
+    ensures session { lines.old.fault ≡ None → IsSession (moment R.left W.held lines.old writer.old bench.old) (moment R.left W.held lines.new writer.new bench.new) result }
+    ensures ends { Ends R.tally W.tally lines.old lines.new writer.old writer.new result }
+    ensures steady { OnOk result (((R.tally lines.new.reader).failures ≡ (R.tally lines.old.reader).failures) × ((W.tally writer.new).failures ≡ (W.tally writer.old).failures)) }
+    ensures whole { OnOk result (IsAtEnd (input_of R.left lines.new)) }
+    ensures drained { result ≡ Err ServeFault.Read → lines.old.fault ≡ None → IsDrained lines.new }
+    ensures remembered { lines.new.fault ≡ left_by result }
+    ensures again { (f : LineFault) → lines.old.fault ≡ Some f → ReturnsAgain f (moment R.left W.held lines.old writer.old bench.old) (moment R.left W.held lines.new writer.new bench.new) result }
+    ensures bound { reads_bound R.tally lines.new ≡ reads_bound R.tally lines.old }
+    ensures reads_in_time { KeepsTime R.tally lines.old lines.new }
+    ensures writes_in_time { WritesInTime W.tally writer.old writer.new }
+{
+    serve_watched(bench, lines, writer, &mut NoWatch {})
+}
+
+/// Does what `serve` does, and tells `watch` of each reply, and of each edit of the script that is refused: after its reply, before the next
+/// line is read. What `watch` does has no part in the session.
+pub fn serve_watched<R: Source + Drop, W: Sink, S: Watch>(
     bench: &mut Bench,
     lines: &mut Lines<R>,
     writer: &mut W,

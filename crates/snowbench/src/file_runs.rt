@@ -7,15 +7,15 @@ ghost use Rattle.snowbench.specs.FileRuns.{ChecksFiles, HasFilesReasons, IsFiles
 use crate::script_files::{
     FileFault, FilesFault, FilesInput, open_files, overlong_line, parse_file,
 };
-use sbl_batch::check;
+use sbl_batch::check_observed;
 use sbl_bench::{Progress, WordKeys};
 use sbl_input::LoadFault;
 use sbl_io::{Lines, ServeFault, Sink, Source, write_all};
 use sbl_reports::rows_text;
-use sbl_sessions::{Watch, serve};
+use sbl_sessions::{Watch, serve_watched};
 use std::alloc::Global;
 
-/// Runs a session over files: opens the bench of the script over the words, and answers the commands, as `serve` does. The script
+/// Runs a session over files: opens the bench of the script over the words, and answers the commands, as `serve_watched` does. The script
 /// is the lines of its file, each followed by a line feed. The words are the lines of theirs; no line ends them. The keys are those of the
 /// hash by which words are found. `watch` sees how many words were run, each reply, and each edit that is refused.
 ///
@@ -41,7 +41,7 @@ pub fn run_files<R: Source + Drop, W: Sink, S: Watch + Progress>(
         Err(fault) => return Err(fault),
     };
     watch.begin(&bench);
-    let served = serve(&mut bench, commands, writer, watch);
+    let served = serve_watched(&mut bench, commands, writer, watch);
     bench.leak();
     match served {
         Ok(()) => Ok(()),
@@ -113,7 +113,7 @@ pub fn check_files<W: Sink, P: Progress>(
         script.discard();
         return Err(FilesFault::Stems(fault));
     }
-    let checked = check(alloc, &script, input.words, stems, writer, progress);
+    let checked = check_observed(alloc, &script, input.words, stems, writer, progress);
     script.discard();
     match checked {
         Ok(differences) => Ok(differences),

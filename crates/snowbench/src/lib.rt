@@ -16,7 +16,7 @@ pub use listing::{ListKind, list_files};
 pub use program::{answer, run, run_with};
 pub use sbl_batch::check;
 pub use sbl_bench::{NoProgress, Progress, WordKeys};
-pub use sbl_input::{LoadFault, load};
+pub use sbl_input::{LoadFault, load, load_with_keys};
 pub use sbl_io::{Device, Lines, ServeFault, Sink, Source, Stop};
 pub use sbl_reports::ListForm;
 pub use sbl_script::ScriptFault;

@@ -13,12 +13,12 @@ ghost use Rattle.snowbench.specs.WholeCheck.{ChecksLists, IsWholeCheck, ReadsExp
 ghost use Rattle.snowbench.specs.WholeSession.{IsWholeSession};
 
 use crate::command_line::{Verb, Wanted};
-use sbl_batch::{check, filter};
+use sbl_batch::{check_observed, filter};
 use sbl_bench::{Progress, WordKeys};
-use sbl_input::{LoadFault, load, load_rows, read_script};
+use sbl_input::{LoadFault, load_observed, load_rows, read_script};
 use sbl_io::{Lines, ServeFault, Sink, Source, write_all};
 use sbl_script::Script;
-use sbl_sessions::{NoWatch, Watch, serve};
+use sbl_sessions::{NoWatch, Watch, serve_watched};
 use std::alloc::{AllocError, Global};
 use std::fmt::InlineText;
 
@@ -78,7 +78,7 @@ pub fn run<R: Source + Drop, W: Sink, E: Sink>(
 
 /// Does what `run` does, over lines and with keys: does what is wanted, reads `lines`, writes to `writer`, and returns the exit status.
 /// The keys are those of the hash by which words are found, as in `Bench::open_with_keys`. `watch` sees each reply of a session and each
-/// edit that it refuses, as by `serve`, and for `session` and `check` how many words were run.
+/// edit that it refuses, as by `serve_watched`, and for `session` and `check` how many words were run.
 pub fn run_with<R: Source + Drop, W: Sink, E: Sink, S: Watch + Progress>(
     wanted: &Wanted,
     keys: WordKeys,
@@ -169,9 +169,9 @@ fn session<R: Source + Drop, W: Sink, S: Watch + Progress>(
     ensures answering { Answering R.tally W.tally lines.old lines.new writer.old writer.new result }
     ensures bound { reads_bound R.tally lines.new ≡ reads_bound R.tally lines.old }
 {
-    let mut bench = load(lines, keys, external, watch)?;
+    let mut bench = load_observed(lines, keys, external, watch)?;
     watch.begin(&bench);
-    let served = serve(&mut bench, lines, writer, watch);
+    let served = serve_watched(&mut bench, lines, writer, watch);
     bench.leak();
     served?;
     Ok(())
@@ -228,7 +228,7 @@ fn check_lists<R: Source + Drop, W: Sink, P: Progress>(
 {
     let words = read_word_block(lines)?;
     let expected = read_expected(lines)?;
-    check(lines.alloc(), script, &words, &expected, writer, progress)
+    check_observed(lines.alloc(), script, &words, &expected, writer, progress)
 }
 
 /// Reads the lines up to a line `.` and returns them, each as `push_line` appends it. Returns `Cut` if the input ends

@@ -3,8 +3,8 @@
 use crate::common::{PREFIXES, field_lines, parse_text};
 use crate::device_items::ByteByByte;
 use snowbench::{
-    Device, Lines, LoadFault, NoProgress, NoWatch, ScriptFault, ServeFault, Sink, Source, WordKeys,
-    check, load, serve,
+    Device, Lines, LoadFault, ScriptFault, ServeFault, Sink, Source, WordKeys, check, load,
+    load_with_keys, serve,
 };
 use std::alloc::Global;
 use std::process::Abort;
@@ -20,8 +20,19 @@ fn serve_lines<R: Source + Drop, W: Sink>(
     lines: &mut Lines<R>,
     writer: &mut W,
 ) -> Result<(), LoadFault> {
-    let mut bench = load(lines, WordKeys::constant(), "stem", &mut NoProgress {})?;
-    let ending = serve(&mut bench, lines, writer, &mut NoWatch {});
+    let mut bench = load(lines, "stem")?;
+    let ending = serve(&mut bench, lines, writer);
+    drop(bench);
+    Ok(ending?)
+}
+
+/// Serves a bench that is loaded with keys.
+fn serve_with_keys<R: Source + Drop, W: Sink>(
+    lines: &mut Lines<R>,
+    writer: &mut W,
+) -> Result<(), LoadFault> {
+    let mut bench = load_with_keys(lines, WordKeys::constant(), "stem")?;
+    let ending = serve(&mut bench, lines, writer);
     drop(bench);
     Ok(ending?)
 }
@@ -43,6 +54,14 @@ fn session_text(alloc: Global, input: &[u8]) -> Result<Vec<u8>, Fail> {
     let mut text = Vec::new(alloc);
     let mut lines = Lines::new(alloc, Device::new(input))?;
     let ending = serve_lines(&mut lines, &mut Device::new(&mut text));
+    with_ending(alloc, text, ending)
+}
+
+/// The same, of a bench that is loaded with keys.
+fn text_with_keys(alloc: Global, input: &[u8]) -> Result<Vec<u8>, Fail> {
+    let mut text = Vec::new(alloc);
+    let mut lines = Lines::new(alloc, Device::new(input))?;
+    let ending = serve_with_keys(&mut lines, &mut Device::new(&mut text));
     with_ending(alloc, text, ending)
 }
 
@@ -68,6 +87,8 @@ fn a_session_is_served(rt: HostRuntime) -> Result<(), Fail> {
         let input = session_of(alloc, field_lines(alloc, row, 0)?.as_str())?;
         let want = field_lines(alloc, row, 1)?;
         let text = session_text(alloc, input.as_bytes())?;
+        assert!(rt; text.as_slice() == want.as_bytes(), "{row}");
+        let text = text_with_keys(alloc, input.as_bytes())?;
         assert!(rt; text.as_slice() == want.as_bytes(), "{row}");
         let text = slow_text(alloc, input.as_bytes(), 1_000)?;
         assert!(rt; text.as_slice() == want.as_bytes(), "{row}");
@@ -126,7 +147,7 @@ const UNLOADED: &[(&[u8], LoadFault)] = &[
 /// The fault of an input that makes no bench.
 fn fault_of_load(alloc: Global, input: &[u8]) -> Result<Option<LoadFault>, Fail> {
     let mut lines = Lines::new(alloc, Device::new(input))?;
-    Ok(load(&mut lines, WordKeys::constant(), "stem", &mut NoProgress {}).err())
+    Ok(load(&mut lines, "stem").err())
 }
 
 #[test]
@@ -156,7 +177,6 @@ fn check_lists(alloc: Global, row: &str) -> Result<Vec<u8>, Fail> {
         words.as_bytes(),
         expected.as_bytes(),
         &mut writer,
-        &mut NoProgress {},
     );
     drop(script);
     let result: String = match result {

@@ -1,10 +1,10 @@
 //! Tests of what a bench holds after a session has ended, at the end of its input or by a fault. The bench is looked at by a second session.
 
 use crate::calls::verbs::{Reader, Writer, with_fault};
-use sbl_bench::{Bench, WordKeys};
+use sbl_bench::Bench;
 use sbl_input::load;
 use sbl_io::{Device, Lines};
-use sbl_sessions::{NoWatch, serve};
+use sbl_sessions::serve;
 use std::alloc::{AllocError, Global};
 use std::process::Abort;
 use std::test::Fail;
@@ -35,7 +35,7 @@ fn replies(
     lines: &mut Lines<Reader<'_>>,
     mut writer: Writer,
 ) -> Result<Vec<u8>, Fail> {
-    let ending = serve(bench, lines, &mut writer, &mut NoWatch {});
+    let ending = serve(bench, lines, &mut writer);
     Ok(with_fault(alloc, writer, ending)?)
 }
 
@@ -67,7 +67,7 @@ fn see(
     write: u64,
     asked: &[u8],
 ) -> Result<Seen, Fail> {
-    match load(lines, WordKeys::constant(), "stem", &mut NoWatch {}) {
+    match load(lines, "stem") {
         Ok(mut bench) => {
             let seen = serve_and_ask(alloc, &mut bench, lines, write, asked);
             bench.leak();

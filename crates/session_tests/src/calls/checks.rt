@@ -2,7 +2,6 @@
 
 use crate::calls::verbs::{all_write, with_ending};
 use sbl_batch::check;
-use sbl_bench::NoProgress;
 use sbl_io::Device;
 use sbl_script::Script;
 use std::alloc::Global;
@@ -34,14 +33,7 @@ fn check_lists(alloc: Global, row: &str) -> Result<Vec<u8>, Fail> {
     let pieces = in_pieces(Vec::new(alloc), 4, number(row, 2), number(row, 3));
     let mut writer = Device::new(pieces);
     let script = Script::parse(alloc, PREFIXES.as_bytes(), "stem")?;
-    let ending = check(
-        alloc,
-        &script,
-        &words,
-        &expected,
-        &mut writer,
-        &mut NoProgress {},
-    );
+    let ending = check(alloc, &script, &words, &expected, &mut writer);
     script.discard();
     let ending = match ending {
         Ok(differences) => format!(in alloc; "{differences}")?,

@@ -1,11 +1,10 @@
 //! A session or a filter over a reader and a writer in memory, from its script to its end.
 
 use sbl_batch::{WordFault, filter, filter_to_end};
-use sbl_bench::WordKeys;
 use sbl_input::{LoadFault, load, read_script};
 use sbl_io::{Device, Lines};
 use sbl_script::Script;
-use sbl_sessions::{NoWatch, serve};
+use sbl_sessions::serve;
 use std::alloc::{AllocError, Global};
 use std::fmt::Display;
 use std::process::Abort;
@@ -61,8 +60,8 @@ pub(crate) fn with_fault<E: Display + Drop>(
 
 /// Runs a session.
 fn session(lines: &mut Lines<Reader<'_>>, writer: &mut Writer) -> Result<(), LoadFault> {
-    let mut bench = load(lines, WordKeys::constant(), "stem", &mut NoWatch {})?;
-    let served = serve(&mut bench, lines, writer, &mut NoWatch {});
+    let mut bench = load(lines, "stem")?;
+    let served = serve(&mut bench, lines, writer);
     bench.leak();
     served.map_err(LoadFault::Input)
 }

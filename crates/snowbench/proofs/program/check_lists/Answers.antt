@@ -41,12 +41,12 @@ pub returns-clause-checked : goal.returns-clause-checked
 returns-clause-checked g c = λ none.
     let left = g.R.Source.left in
     let held = g.W.Sink.held in
-    lists_checked (source_of c.args.script.now) (input_of left c.args.lines.now) (input_of left c.read_word_block.new.lines) (input_of left c.read_expected.new.lines) (held c.args.writer.now) (held c.check.new.writer)
-    c.in_ok-words.words c.in_ok-expected.expected c.deref.result.now c.deref-2.result.now c.check.result (c.in_ok-words.ensures.reads none) (c.in_ok-expected.ensures.reads c.in_ok-words.ensures.remembered)
-    c.deref.ensures.value c.deref-2.ensures.value c.check.ensures.checked
+    lists_checked (source_of c.args.script.now) (input_of left c.args.lines.now) (input_of left c.read_word_block.new.lines) (input_of left c.read_expected.new.lines) (held c.args.writer.now) (held c.check_observed.new.writer)
+    c.in_ok-words.words c.in_ok-expected.expected c.deref.result.now c.deref-2.result.now c.check_observed.result (c.in_ok-words.ensures.reads none) (c.in_ok-expected.ensures.reads c.in_ok-words.ensures.remembered)
+    c.deref.ensures.value c.deref-2.ensures.value c.check_observed.ensures.checked
 
 pub returns-clause-why : goal.returns-clause-why
 returns-clause-why g c = λ none.
     let held = g.W.Sink.held in
-    check_result_reasons g.R.Source.tally g.W.Sink.tally c.args.lines.now c.read_expected.new.lines c.args.writer.now c.check.new.writer c.check.result
-    (source_of c.args.script.now) c.deref.result.now c.deref-2.result.now (held c.args.writer.now) (held c.check.new.writer) c.check.ensures.checked c.check.ensures.why
+    check_result_reasons g.R.Source.tally g.W.Sink.tally c.args.lines.now c.read_expected.new.lines c.args.writer.now c.check_observed.new.writer c.check_observed.result
+    (source_of c.args.script.now) c.deref.result.now c.deref-2.result.now (held c.args.writer.now) (held c.check_observed.new.writer) c.check_observed.ensures.checked c.check_observed.ensures.why

@@ -4,7 +4,7 @@ use Rattle.sbl_bench.specs.KeptRuns.{contents_of}
 use Rattle.sbl_io.specs.Devices.{WritesInTime}
 use Rattle.sbl_io.specs.HeldInput.{KeepsTime, TakesFeeds, fuel_of, input_of, reads_bound}
 use Rattle.sbl_sessions.specs.Session.{Replies, moment}
-use Rattle.sbl_sessions.proofs.serving.serve.Given as goal
+use Rattle.sbl_sessions.proofs.serving.serve_watched.Given as goal
 
 abbrev pub invariant-loop-row : goal.invariant-loop-row
 invariant-loop-row g l = record {

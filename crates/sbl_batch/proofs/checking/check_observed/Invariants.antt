@@ -3,7 +3,7 @@ use Rattle.sbl_machine.specs.MachineOf.{IsLinkedMachineOf}
 use Rattle.sbl_script.specs.ParsedScript.{source_of}
 use Rattle.sbl_batch.specs.Checking.{Progress}
 use Rattle.sbl_io.specs.Devices.{WritesInTime}
-use Rattle.sbl_batch.proofs.checking.check.Given as goal
+use Rattle.sbl_batch.proofs.checking.check_observed.Given as goal
 
 abbrev pub invariant-loop-word : goal.invariant-loop-word
 invariant-loop-word g l = record {

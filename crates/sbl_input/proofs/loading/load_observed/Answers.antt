@@ -1,5 +1,5 @@
 use Rattle.std.proofs.Common.{◌∙◌, sym, rules}
-use Rattle.sbl_input.proofs.loading.load.Goals as goal
+use Rattle.sbl_input.proofs.loading.load_observed.Goals as goal
 
 pub returns-in_err-script-clause-again : goal.returns-in_err-script-clause-again
 returns-in_err-script-clause-again g c = λ fault is.

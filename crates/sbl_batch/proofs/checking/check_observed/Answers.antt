@@ -3,8 +3,8 @@ use Rattle.std.proofs.lemmas.Result.{err_from_is_err_and}
 use Rattle.sbl_script.specs.ParsedScript.{source_of}
 use Rattle.sbl_batch.specs.Checking.{count}
 use Rattle.sbl_batch.proofs.CheckFacts.{compared_all, compared_first, compared_fails, compared_more, fewer_stems, fewer_words, none_counted, one_counted}
-use Rattle.sbl_batch.proofs.checking.check.Goals as goal
-use Rattle.sbl_batch.proofs.checking.check.Goals.{then-branch, else-branch}
+use Rattle.sbl_batch.proofs.checking.check_observed.Goals as goal
+use Rattle.sbl_batch.proofs.checking.check_observed.Goals.{then-branch, else-branch}
 
 pub loop-word-init : goal.loop-word-init
 loop-word-init g c = record {

@@ -11,7 +11,7 @@ use Rattle.sbl_io.specs.declared.faults.LineFault.TheVariants as read
 use Rattle.sbl_io.specs.declared.faults.ServeFault.{ServeFault}
 use Rattle.sbl_io.proofs.Bytes.{whole_none, whole_trans}
 use Rattle.sbl_sessions.proofs.SessionFacts.{at, session_starts, session_goes_on, session_ends, session_at_line, session_at_write, session_open}
-use Rattle.sbl_sessions.proofs.serving.serve.Goals as goal
+use Rattle.sbl_sessions.proofs.serving.serve_watched.Goals as goal
 
 no_fault : {f : Option LineFault} → f ≡ None → IsSome f → ⊥
 no_fault {f} e some = let none : IsSome {T = LineFault} None = subst IsSome e some in cc none
