@@ -104,7 +104,6 @@ impl RowWriter {
     /// `AllocError` if an allocation fails; the rows then stay.
     pub(crate) fn push_row(
         &mut self,
-        alloc: Global,
         machine: &Machine<Table>,
         meter: &mut Meter,
         word: &str,
@@ -117,6 +116,7 @@ impl RowWriter {
         ensures stays { OnErr result (self.new.text.items ≡ self.old.text.items) }
         ensures between { OnOk result (IsBetweenLines self.new.lines) }
     {
+        let alloc = *self.text.allocator();
         // The lines of a reader are fewer than a meter counts, so the only error is a failed allocation.
         let Ok(end) = machine.run_untraced(alloc, meter, characters, DEFAULT_LIMIT) else {
             return Err(AllocError);

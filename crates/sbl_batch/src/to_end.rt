@@ -45,13 +45,12 @@ fn read_lines<R: Source + Drop, W: Sink>(
     ensures writes_in_time { WritesInTime W.tally writer.old writer.new }
     ensures rested { (rows.new.text.items ≡ []) ⊎ ((W.tally writer.old).interruptions ≡ 0 → (W.tally writer.new).interruptions ≡ 0) }
 {
-    let alloc = lines.alloc();
     loop {
         rows.write_due(lines.holds_line(), writer)?;
         if !lines.next_line()? {
             return Ok(());
         }
-        filter_line(alloc, machine, meter, rows, lines.line())?;
+        filter_line(machine, meter, rows, lines.line())?;
         *line = line.saturating_add(1);
     }
 }

@@ -4,9 +4,8 @@ ghost use Rattle.sbl_bench.specs.KeptRuns.{contents_of};
 ghost use Rattle.sbl_work.specs.WholeWork.{IsOpened};
 
 use crate::appending::{Added, lines_to_append};
-use crate::observing::RefusedSource;
+use crate::folder::Folder;
 use sbl_bench::{Bench, WordKeys};
-use sbl_explain::KeptTakes;
 use sbl_history::{has_crlf, push_crlf};
 use sbl_input::{LoadFault, words_in};
 use sbl_reports::stem_lines;
@@ -30,18 +29,6 @@ pub struct Paths {
     pub from: Option<String>,
     /// The file whose existence breaks an edit off, if there is one.
     pub stop: Option<String>,
-}
-
-/// The files of work, the bytes that were read last from the file of the script, the words that were added, what is kept for
-/// questions about uses, and the text that the last request was refused for.
-#[derive(Drop)]
-pub(crate) struct Folder<'a, F> {
-    pub(crate) files: &'a F,
-    pub(crate) paths: &'a Paths,
-    pub(crate) seen: Vec<u8>,
-    pub(crate) added: Added,
-    pub(crate) kept: KeptTakes,
-    pub(crate) refused: Option<RefusedSource>,
 }
 
 /// The bytes that work begins with.

@@ -6,7 +6,7 @@ ghost use Rattle.sbl_work.specs.Commands as spec;
 ghost use Rattle.sbl_work.specs.ReplyViews.{IsWorkAnswer};
 
 use crate::answers::{reload, replace_by_bytes};
-use crate::files::Folder;
+use crate::folder::Folder;
 use crate::observing::{Attempt, Origin};
 use crate::replies::edit_reply;
 use crate::stopping::StopFile;

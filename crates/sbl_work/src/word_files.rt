@@ -8,7 +8,7 @@ ghost use Rattle.sbl_work.specs.Commands as spec;
 ghost use Rattle.sbl_work.specs.Replies.{RereadsWords, words_text};
 ghost use Rattle.sbl_work.specs.ReplyViews.{IsWorkAnswer, view_file};
 
-use crate::files::Folder;
+use crate::folder::Folder;
 use crate::replies::{NO_FILE, NOT_TEXT, edit_reply};
 use crate::stopping::StopFile;
 use sbl_bench::{Bench, BreakOff, EditFault};
