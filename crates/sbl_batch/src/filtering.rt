@@ -118,7 +118,8 @@ fn read_words<R: Source + Drop, W: Sink>(
     ensures rested { (rows.new.text.items ≡ []) ⊎ ((W.tally writer.old).interruptions ≡ 0 → (W.tally writer.new).interruptions ≡ 0) }
 {
     loop {
-        rows.write_due(lines.holds_line(), writer)?;
+        let due = rows.is_due(lines.holds_line());
+        rows.write_if(due, writer)?;
         if !lines.next_line()? {
             return Ok(());
         }
@@ -151,7 +152,7 @@ fn filter_words<R: Source + Drop, W: Sink>(
     let mut meter = Meter::new();
     let mut rows = RowWriter::new(alloc);
     let ended = read_words(lines, &machine, &mut meter, &mut rows, writer);
-    rows.write_to(writer)?;
+    rows.write_if(true, writer)?;
     ended
 }
 

@@ -1,5 +1,5 @@
 //! The rows of words, made one after another and written together.
-ghost use Rattle.std.specs.Prelude.{◌≡◌, ◌≤◌, ◌++◌, [], ℕ, length, take, false, Ok, IfErr, OnErr, OnOk};
+ghost use Rattle.std.specs.Prelude.{◌≡◌, ◌≤◌, ◌++◌, [], ℕ, length, take, false, true, Ok, IfErr, OnErr, OnOk};
 ghost use Rattle.std.specs.Str.{chars};
 ghost use Rattle.std.specs.Io.KnownBytes.{Appends};
 ghost use Rattle.sbl_semantics.specs.Limit.{max_word_length};
@@ -53,12 +53,25 @@ impl RowWriter {
         }
     }
 
-    /// Writes the rows that are not written yet. Returns `Write` as `write_all` does; then a prefix of them is written, and the rest is
-    /// forgotten.
-    pub(crate) fn write_to<W: Sink>(&mut self, writer: &mut W) -> Result<(), ServeFault>
-        ensures all { OnOk result (Appends (W.held writer.old) (W.held writer.new) self.old.text.items) }
+    /// Returns whether the rows are to be written: no whole line is held, so that a read may follow, or they took many steps or are many.
+    pub(crate) fn is_due(&self, holds_line: bool) -> bool
+        ensures { holds_line ≡ false → result ≡ true }
+    {
+        !holds_line || MOST_STEPS < self.steps || MOST_BYTES < self.text.len()
+    }
+
+    /// Writes the rows that are not written yet if `is_due`. Returns `Write` as `write_all` does; then a prefix of them is written, and
+    /// the rest is forgotten.
+    pub(crate) fn write_if<W: Sink>(
+        &mut self,
+        is_due: bool,
+        writer: &mut W,
+    ) -> Result<(), ServeFault>
+        ensures part { OnOk result (WritesPart (W.held writer.old) (W.held writer.new) self.old.text.items self.new.text.items) }
+        ensures all { OnOk result (is_due ≡ true → Appends (W.held writer.old) (W.held writer.new) self.old.text.items) }
         ensures prefix { (n : ℕ) × Appends (W.held writer.old) (W.held writer.new) (take n self.old.text.items) }
-        ensures empty { self.new.text.items ≡ [] }
+        ensures due { is_due ≡ true → self.new.text.items ≡ [] }
+        ensures cut { OnErr result (self.new.text.items ≡ []) }
         ensures none { self.old.text.items ≡ [] → (result ≡ Ok tt) × (writer.new ≡ writer.old) }
         ensures lines { self.new.lines ≡ self.old.lines }
         ensures later { (W.tally writer.old).failures ≤ (W.tally writer.new).failures }
@@ -67,6 +80,9 @@ impl RowWriter {
         ensures in_time { WritesInTime W.tally writer.old writer.new }
         ensures rested { OnOk result ((W.tally writer.old).interruptions ≡ 0 → (W.tally writer.new).interruptions ≡ 0) }
     {
+        if !is_due {
+            return Ok(());
+        }
         self.steps = 0;
         if self.text.is_empty() {
             return Ok(());
@@ -74,30 +90,6 @@ impl RowWriter {
         let written = write_all(writer, &self.text);
         self.text.clear();
         written
-    }
-
-    /// Writes the rows that are not written yet if no whole line is held, so that a read may follow, or if they took many steps or are
-    /// many. Returns `Write` as `write_to` does.
-    pub(crate) fn write_due<W: Sink>(
-        &mut self,
-        holds_line: bool,
-        writer: &mut W,
-    ) -> Result<(), ServeFault>
-        ensures part { OnOk result (WritesPart (W.held writer.old) (W.held writer.new) self.old.text.items self.new.text.items) }
-        ensures prefix { (n : ℕ) × Appends (W.held writer.old) (W.held writer.new) (take n self.old.text.items) }
-        ensures before_read { holds_line ≡ false → self.new.text.items ≡ [] }
-        ensures cut { OnErr result (self.new.text.items ≡ []) }
-        ensures lines { self.new.lines ≡ self.old.lines }
-        ensures later { (W.tally writer.old).failures ≤ (W.tally writer.new).failures }
-        ensures steady { OnOk result ((W.tally writer.new).failures ≡ (W.tally writer.old).failures) }
-        ensures why { IfErr result (λ fault. (fault ≡ ServeFault.Write) × HasStopped W.tally writer.old writer.new) }
-        ensures in_time { WritesInTime W.tally writer.old writer.new }
-        ensures rested { OnOk result ((W.tally writer.old).interruptions ≡ 0 → (W.tally writer.new).interruptions ≡ 0) }
-    {
-        if !holds_line || MOST_STEPS < self.steps || MOST_BYTES < self.text.len() {
-            return self.write_to(writer);
-        }
-        Ok(())
     }
 
     /// Runs the script on a word of these characters, and appends the word's row to those that are not written yet. Returns
