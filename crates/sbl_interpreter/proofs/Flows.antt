@@ -50,12 +50,6 @@ ends_early r halt new w e f g is p h = rw is (follows_at (Err halt) new w (after
 pub unpaid : (r : Result Bool Halt) (halt : Halt) (new s : State) (cost : ℕ) (x w : Ending) (k : State → Ending) → r ≡ Err halt → x ≡ w → x ≡ then_on (pays cost s) k → Follows (Err halt) new (pays cost s) → Follows r new w
 unpaid r halt new s cost x w k is inv flows h = ends_early r halt new w (pays cost s) k (Signals false) is (sym inv ∙ flows) h
 
--- the same at an instruction
-pub unpaid_at : (P : programs.Program) (levels : ℕ) (T : ℕ → Listing) (m : Mode) (slots : List SavedCursor) (at x : Instruction) (w : Ending) (new s : State) (cost : ℕ) (k : State → Ending) (r : Result Bool Halt) (halt : Halt) →
-    at ≡ x → flow P levels T x m slots s ≡ then_on (pays cost s) k → flow P levels T at m slots s ≡ w → r ≡ Err halt → Follows (Err halt) new (pays cost s) → Follows r new w
-unpaid_at P levels T m slots at x w new s cost k r halt is flows inv e h =
-    unpaid r halt new s cost (flow P levels T at m slots s) w k e inv (ap (λ y. flow P levels T y m slots s) is ∙ flows) h
-
 -- they are, and it goes on
 pub then_paid : (x w : Ending) (s u : State) (cost : ℕ) (k : State → Ending) → x ≡ w → x ≡ then_on (pays cost s) k → pays cost s ≡ Signals true u → w ≡ k u
 then_paid x w s u cost k inv flows h = sym inv ∙ flows ∙ ap (λ r. then_on r k) h

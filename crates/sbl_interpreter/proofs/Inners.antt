@@ -112,21 +112,23 @@ module _ (p : programs.Program) (levels : ℕ) (tables : ℕ → Listing) where
         ∙ ap (λ (z : SearchSite). search_all (calls p levels) among z.entries.items (tables z.table) m u) (sym hx))
 
   module _ (m : Mode) (s new : State) (at : Instruction) (r : Result Bool Halt) where
-    -- a command that is done as often as a number says
-    follows_counted : (of : programs.Arithmetic → Doing → Doing) (made : Instruction) (count : Box Arithmetic Global) (body : I) (k : Arithmetic) (x : Instruction) → at ≡ made → D made ≡ of (view_number count.value) (alone (F body.value)) → k ≡ count.value → x ≡ body.value → Follows r new (of (view_number k) (alone (F x)) m s) → Follows r new (D at m s)
-    follows_counted of made count body k x is does hk hx h =
-        follows_at r new (D at m s) (of (view_number k) (alone (F x)) m s)
+    pub follows_loop : (cost : ℕ) (count : Box Arithmetic Global) (body next fail : I) (k : Arithmetic) (x : Instruction) → at ≡ Loop cost count body next fail → k ≡ count.value → x ≡ body.value → Follows r new (loop_of (view_number k) (alone (F x)) m s) → Follows r new (D at m s)
+    follows_loop cost count body next fail k x is hk hx h =
+        follows_at r new (D at m s) (loop_of (view_number k) (alone (F x)) m s)
         (ap (λ (i : Instruction). D i m s) is
-        ∙ ap (λ (d : Doing). d m s) does
-        ∙ ap (λ (z : Arithmetic). of (view_number z) (alone (F body.value)) m s) (sym hk)
-        ∙ ap (λ (z : Instruction). of (view_number k) (alone (F z)) m s) (sym hx))
+        ∙ ap (λ (d : Doing). d m s) (does_loop cost count body next fail)
+        ∙ ap (λ (z : Arithmetic). loop_of (view_number z) (alone (F body.value)) m s) (sym hk)
+        ∙ ap (λ (z : Instruction). loop_of (view_number k) (alone (F z)) m s) (sym hx))
         h
 
-    pub follows_loop : (cost : ℕ) (count : Box Arithmetic Global) (body next fail : I) (k : Arithmetic) (x : Instruction) → at ≡ Loop cost count body next fail → k ≡ count.value → x ≡ body.value → Follows r new (loop_of (view_number k) (alone (F x)) m s) → Follows r new (D at m s)
-    follows_loop cost count body next fail k x is hk hx h = follows_counted loop_of (Loop cost count body next fail) count body k x is (does_loop cost count body next fail) hk hx h
-
     pub follows_at_least : (cost : ℕ) (count : Box Arithmetic Global) (body next fail : I) (k : Arithmetic) (x : Instruction) → at ≡ AtLeast cost count body next fail → k ≡ count.value → x ≡ body.value → Follows r new (at_least_of (view_number k) (alone (F x)) m s) → Follows r new (D at m s)
-    follows_at_least cost count body next fail k x is hk hx h = follows_counted at_least_of (AtLeast cost count body next fail) count body k x is (does_at_least cost count body next fail) hk hx h
+    follows_at_least cost count body next fail k x is hk hx h =
+        follows_at r new (D at m s) (at_least_of (view_number k) (alone (F x)) m s)
+        (ap (λ (i : Instruction). D i m s) is
+        ∙ ap (λ (d : Doing). d m s) (does_at_least cost count body next fail)
+        ∙ ap (λ (z : Arithmetic). at_least_of (view_number z) (alone (F body.value)) m s) (sym hk)
+        ∙ ap (λ (z : Instruction). at_least_of (view_number k) (alone (F z)) m s) (sym hx))
+        h
 
     pub follows_set_limit : (cost : ℕ) (first second next fail : I) (x y : Instruction) → at ≡ SetLimit cost first second next fail → x ≡ first.value → y ≡ second.value → Follows r new (limited_of (alone (F x)) (alone (F y)) m s) → Follows r new (D at m s)
     follows_set_limit cost first second next fail x y is hx hy h =
