@@ -116,15 +116,27 @@ fn same_scales(one: &Vec<NextFactor>, other: &Vec<NextFactor>) -> bool
 fn same_factor(one: &Factor, other: &Factor) -> bool
     ensures { result ≡ spec.same_factor (view_factor one.now) (view_factor other.now) }
 {
-    match one {
-        Factor::Minus(one) => matches!(other, Factor::Minus(other) if same_factor(one, other)),
-        Factor::Bracket(one) => {
-            matches!(other, Factor::Bracket(other) if same_expression(one, other))
-        }
-        Factor::Number(one) => matches!(other, Factor::Number(other) if *one == *other),
-        Factor::Name(one) => matches!(other, Factor::Name(other) if one.as_str() == other.as_str()),
-        Factor::Constant(one) => matches!(other, Factor::Constant(other) if *one == *other),
-        Factor::LenOf(one) => matches!(other, Factor::LenOf(other) if same_argument(one, other)),
+    match (one, other) {
+        (Factor::Minus(one), Factor::Minus(other)) => same_factor(one, other),
+        (Factor::Bracket(one), Factor::Bracket(other)) => same_expression(one, other),
+        (Factor::Number(one), Factor::Number(other)) => *one == *other,
+        (Factor::Name(one), Factor::Name(other)) => one.as_str() == other.as_str(),
+        (Factor::Constant(one), Factor::Constant(other)) => *one == *other,
+        (Factor::LenOf(one), Factor::LenOf(other)) => same_argument(one, other),
+        (
+            Factor::Minus(_)
+            | Factor::Bracket(_)
+            | Factor::Number(_)
+            | Factor::Name(_)
+            | Factor::Constant(_)
+            | Factor::LenOf(_),
+            Factor::Minus(_)
+            | Factor::Bracket(_)
+            | Factor::Number(_)
+            | Factor::Name(_)
+            | Factor::Constant(_)
+            | Factor::LenOf(_),
+        ) => false,
     }
 }
 
