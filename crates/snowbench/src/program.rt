@@ -13,7 +13,7 @@ ghost use Rattle.snowbench.specs.WholeCheck.{ChecksLists, IsWholeCheck, ReadsExp
 ghost use Rattle.snowbench.specs.WholeSession.{IsWholeSession};
 
 use crate::command_line::{Verb, Wanted};
-use sbl_batch::{check_observed, filter};
+use sbl_batch::{CheckedLists, check_observed, filter};
 use sbl_bench::{Progress, WordKeys};
 use sbl_input::{LoadFault, load_observed, load_rows, read_script};
 use sbl_io::{Lines, ServeFault, Sink, Source, write_all};
@@ -228,7 +228,11 @@ fn check_lists<R: Source + Drop, W: Sink, P: Progress>(
 {
     let words = read_word_block(lines)?;
     let expected = read_expected(lines)?;
-    check_observed(lines.alloc(), script, &words, &expected, writer, progress)
+    let lists = CheckedLists {
+        words: &words,
+        expected: &expected,
+    };
+    check_observed(lines.alloc(), script, lists, writer, progress)
 }
 
 /// Reads the lines up to a line `.` and returns them, each as `push_line` appends it. Returns `Cut` if the input ends
