@@ -18,7 +18,7 @@ use Rattle.sbl_rows.specs.Rows.{row_of}
 use Rattle.sbl_rows.specs.Setting.{under}
 use Rattle.sbl_semantics.specs.Limit.{default_limit, max_word_length}
 
--- the line of a word's row under the limit of a run that is given none
+-- the line of a word's row under the default limit
 abbrev pub word_line : Source → List ℕ → List ℕ
 word_line s word = record_line (row_fields (row_of (under s default_limit) word))
 

@@ -128,7 +128,8 @@ impl KeptTakes {
     /// Returns a row for each routine, external and grouping of the script, in the order of the text, with the number of words whose
     /// run uses it; after a routine its amongs, by number, and after each among its strings. Runs that are refused count.
     ///
-    /// Runs only the words that are not kept. Returns `AllocError` if an allocation fails.
+    /// Runs only words that an edit since the last question can concern, or that are not kept. Returns `AllocError` if an allocation
+    /// fails.
     pub fn counts_text(&mut self, alloc: Global, bench: &Bench) -> Result<Vec<u8>, AllocError>
         ensures { IfOk result (λ text. text.items ≡ spec.counts_text (setting_of bench.now) bench.now.words) }
     {

@@ -208,7 +208,8 @@ impl KeptTakes {
     /// groupings that the run of no word touches, in their order, and then the strings of the other amongs that the run of no word
     /// takes. A grouping counts as touched if one that is built from it is. Runs that are refused count.
     ///
-    /// Runs only the words that are not kept. Returns `AllocError` if an allocation fails.
+    /// Runs only words that an edit since the last question can concern, or that are not kept. Returns `AllocError` if an allocation
+    /// fails.
     pub fn unused_text(&mut self, alloc: Global, bench: &Bench) -> Result<Vec<u8>, AllocError>
         ensures { IfOk result (λ text. text.items ≡ spec.unused_text (setting_of bench.now) bench.now.words) }
     {

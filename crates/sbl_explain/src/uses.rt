@@ -220,7 +220,7 @@ impl KeptTakes {
     /// Returns the rows of the words whose runs use a part of the script, in vocabulary order: enter the routine or external, search the
     /// among, test the grouping or one that is built from it, or take the string of the among. Runs that are refused count.
     ///
-    /// For a string, runs only the words that an edit since the last question can concern, as far as the others are kept.
+    /// For a string, runs only words that an edit since the last question can concern, or that are not kept.
     ///
     /// # Errors
     ///

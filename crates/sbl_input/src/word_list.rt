@@ -9,7 +9,7 @@ use sbl_bench::{MAX_WORDS, WordKeys, word_fault};
 use std::alloc::{AllocError, Global};
 use std::mem;
 
-/// The room that is made at first, in words. Memory that is not written takes no page of the machine.
+/// The room that is made at first, in words. Room that is never written costs no page.
 const FIRST_WORDS: usize = 32_768;
 
 /// The words so far that decide how a bench opens, and the first word that a bench refuses. Empty words and the words after that

@@ -45,8 +45,8 @@ impl Added {
         false
     }
 
-    /// Notes that a line was answered, before which the vocabulary had this number of words; if it removed a word, it removed one of the
-    /// start if `is_of_start` is true.
+    /// Notes that a line was answered. `before` is how many words there were. If there are fewer now and `is_of_start` is true, a word of
+    /// the start was removed.
     pub(crate) fn note_answered(&mut self, bench: &Bench, before: usize, is_of_start: bool) {
         if bench.len() < before && is_of_start {
             self.first = self.first.saturating_sub(1);

@@ -81,7 +81,7 @@ fn refused_source(
     }
 }
 
-/// An edit by a text that may be refused: where the text is from, and what has it then.
+/// An edit by a text: where the text is from, and what keeps it if the edit is refused for it.
 #[derive(Drop)]
 pub(crate) struct Attempt<'a> {
     pub(crate) alloc: Global,

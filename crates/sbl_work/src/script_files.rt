@@ -31,8 +31,8 @@ fn replace_by_text<B: BreakOff>(
     edit_reply(answer)
 }
 
-/// Reads a file that replaces the whole script, and returns the reply. If it is the file of the script, by whatever name, the folder has
-/// seen its bytes then.
+/// Reads a file that replaces the whole script, and returns the reply. If it is the file of the script, by whatever name, `folder.seen`
+/// has its bytes then.
 pub(crate) fn replace_by_file<F: Files + AllocGlobal>(
     folder: &mut Folder<'_, F>,
     desk: &mut Desk,
