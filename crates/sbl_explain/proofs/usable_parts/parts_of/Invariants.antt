@@ -5,4 +5,4 @@ use Rattle.sbl_explain.specs.UnusedViews.{view_parts}
 use Rattle.sbl_explain.proofs.usable_parts.parts_of.Given as goal
 
 abbrev pub invariant-loop-part : goal.invariant-loop-part
-invariant-loop-part l = put_in_order (view_parts l.parts.entries) (view_parts l.part-iterator) ≡ parts_of (source_of l.script)
+invariant-loop-part l = put_in_order (view_parts l.parts.entries) (view_parts l.part-iterator.rest.items) ≡ parts_of (source_of l.script)
