@@ -91,7 +91,7 @@ fn read_words<R: Source + Drop>(lines: &mut Lines<R>, keys: WordKeys) -> Result<
     ensures why { IfErr result (λ fault. HasReason R.tally lines.old lines.new fault) }
     ensures in_time { KeepsTime R.tally lines.old lines.new }
 {
-    let mut words = WordList::new(lines.alloc(), keys)?;
+    let mut words = WordList::new(lines.alloc(), keys);
     while lines.next_line()? {
         if lines.line() == b".".as_slice() {
             return Ok(words);

@@ -9,9 +9,6 @@ use sbl_bench::{MAX_WORDS, WordKeys, word_fault};
 use std::alloc::{AllocError, Global};
 use std::mem;
 
-/// The room that is made at first, in words. Room that is never written costs no page.
-const FIRST_WORDS: usize = 32_768;
-
 /// The words so far that decide how a bench opens, and the first word that a bench refuses. Empty words and the words after that
 /// one are not kept.
 #[derive(Drop)]
@@ -31,16 +28,16 @@ enum KeptWords {
 }
 
 impl WordList {
-    /// Returns the list of no words. If words are found by a hash, it has these keys. Returns `AllocError` if an allocation fails.
-    pub(crate) fn new(alloc: Global, keys: WordKeys) -> Result<WordList, AllocError>
-        ensures { IfOk result (λ list. HoldsWords list []) }
+    /// Returns the list of no words. If words are found by a hash, it has these keys. Does not allocate.
+    pub(crate) fn new(alloc: Global, keys: WordKeys) -> WordList
+        ensures { HoldsWords result [] }
     {
-        Ok(WordList {
+        WordList {
             alloc,
             keys,
-            words: KeptWords::Plain(Vec::with_capacity(alloc, FIRST_WORDS)?),
+            words: KeptWords::Plain(Vec::new(alloc)),
             refused: None,
-        })
+        }
     }
 
     /// Appends a word. Returns `AllocError` if an allocation fails.

@@ -169,7 +169,8 @@ pub(crate) fn save<F: Files + AllocGlobal>(
         return save_file(files, path, &text, Former::Any);
     }
     let text = with_ends_of(files.alloc(), folder.seen.as_slice(), text)?;
-    let saved = save_file(files, path, &text, Former::Bytes(folder.seen.as_slice()));
+    let seen = folder.seen.as_slice();
+    let saved = save_file(files, path, &text, Former::Bytes(seen));
     if saved.is_ok() || saved == Err(SaveFault::NotSettled) {
         folder.seen = text;
     }

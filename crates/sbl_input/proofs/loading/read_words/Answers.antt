@@ -11,12 +11,7 @@ use Rattle.sbl_input.proofs.loading.read_words.Goals as goal
 
 pub loop-words-init : goal.loop-words-init
 loop-words-init g c =
-    ([], tt, tt, took-none _, c.in_ok-words.ensures, refl, omega arith, tt, refl, (λ timely. timely), refl)
-
-pub returns-in_err-words-clause-reads : goal.returns-in_err-words-clause-reads
-returns-in_err-words-clause-reads g c = λ _.
-    let p = err_from_is_err_and c.from_residual.result c.from_residual.ensures.1 in
-    rw (p.1, p.2) ([], (tt, tt), took-none _)
+    ([], tt, tt, took-none _, c.new-words.ensures, refl, omega arith, tt, refl, (λ timely. timely), refl)
 
 pub returns-in_err-word-clause-reads : goal.returns-in_err-word-clause-reads
 returns-in_err-word-clause-reads g c = λ _.
