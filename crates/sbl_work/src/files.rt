@@ -156,23 +156,22 @@ fn is_words<F: Files>(files: &F, paths: &Paths, path: &str) -> bool {
 ///
 /// Returns the faults of `save_file`, and `NotWritten` also for the file of words.
 pub(crate) fn save<F: Files + AllocGlobal>(
-    folder: &mut Folder<'_, F>,
+    files: &F,
+    paths: &Paths,
+    seen: &mut Vec<u8>,
     path: &str,
     text: Vec<u8>,
 ) -> Result<(), SaveFault> {
-    let files = folder.files;
-    let paths = folder.paths;
     if is_words(files, paths, path) {
         return Err(SaveFault::NotWritten);
     }
     if !is_same_file(files, path, paths.script.as_str()) {
         return save_file(files, path, &text, Former::Any);
     }
-    let text = with_ends_of(files.alloc(), folder.seen.as_slice(), text)?;
-    let seen = folder.seen.as_slice();
-    let saved = save_file(files, path, &text, Former::Bytes(seen));
+    let text = with_ends_of(files.alloc(), seen.as_slice(), text)?;
+    let saved = save_file(files, path, &text, Former::Bytes(seen.as_slice()));
     if saved.is_ok() || saved == Err(SaveFault::NotSettled) {
-        folder.seen = text;
+        *seen = text;
     }
     saved
 }

@@ -55,7 +55,7 @@ fn save_text<F: Files + AllocGlobal>(
     path: &str,
 ) -> Result<(), SaveFault> {
     let text = desk.text(bench)?;
-    save(folder, path, text)
+    save(folder.files, folder.paths, &mut folder.seen, path, text)
 }
 
 /// Makes the edit or the report that a line without a block asks for, with what its file has, and returns the reply.
