@@ -296,7 +296,7 @@ fn words_command<'a>(
     script: Arg<'a>,
 ) -> Result<Command<'a>, AllocError>
     requires here { script.global ≡ false }
-    ensures { IfOk result (λ c. app_of c ≡ with_rule (with_rule (verb_app name.entry.now) (rule_of script)) (new_rule (codes "WORDS"))) }
+    ensures { IfOk result (λ c. app_of c ≡ with_rule (with_rule (verb_app name.entry.now) (rule_of script.entry)) (new_rule (codes "WORDS"))) }
 {
     verb_command(alloc, name, about, help)?
         .arg(script)?
