@@ -22,7 +22,7 @@ use std::alloc::{AllocError, Global};
 use std::mem;
 
 /// Replaces the characters by those of a word. Returns `AllocError` if an allocation fails.
-fn put_characters(characters: &mut Vec<char>, word: &str) -> Result<(), AllocError>
+pub(crate) fn put_characters(characters: &mut Vec<char>, word: &str) -> Result<(), AllocError>
     ensures { OnOk result (characters.new.items ≡ chars word.now) }
 {
     characters.clear();

@@ -9,6 +9,7 @@ mod filtering;
 pub mod laws;
 mod lines;
 mod row_writer;
+mod stemming;
 mod to_end;
 mod word_fault;
 
@@ -17,5 +18,6 @@ pub use checking::{CheckedLists, check, check_observed};
 pub use comparing::{ScriptComparison, compare, compare_status, write_comparison};
 pub use comparison_rows::comparison_text;
 pub use filtering::filter;
+pub use stemming::stem_rows;
 pub use to_end::filter_to_end;
 pub use word_fault::WordFault;

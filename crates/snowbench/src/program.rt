@@ -13,9 +13,9 @@ ghost use Rattle.snowbench.specs.WholeCheck.{ChecksLists, IsWholeCheck, ReadsExp
 ghost use Rattle.snowbench.specs.WholeSession.{IsWholeSession};
 
 use crate::command_line::{Verb, Wanted};
-use sbl_batch::{CheckedLists, check_observed, filter};
+use sbl_batch::{CheckedLists, check_observed, filter, stem_rows};
 use sbl_bench::{Progress, WordKeys};
-use sbl_input::{LoadFault, load_observed, load_rows, read_script};
+use sbl_input::{LoadFault, load_observed, read_script};
 use sbl_io::{Lines, ServeFault, Sink, Source, write_all};
 use sbl_script::Script;
 use sbl_sessions::{NoWatch, Watch, serve_watched};
@@ -188,7 +188,7 @@ fn stem<R: Source + Drop, W: Sink>(
     ensures answering { Answering R.tally W.tally lines.old lines.new writer.old writer.new result }
     ensures bound { reads_bound R.tally lines.new ≡ reads_bound R.tally lines.old }
 {
-    let text = load_rows(lines, keys, external)?;
+    let text = stem_rows(lines, keys, external)?;
     write_all(writer, &text)?;
     Ok(())
 }
