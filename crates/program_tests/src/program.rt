@@ -1,6 +1,6 @@
 //! Tests of the whole program with a reader and writers in memory. tests/cases has more of them.
 
-use snowbench::{Device, Lines, Options, Verb, Wanted, WordKeys, run, run_with};
+use snowbench::{Device, Lines, NoWatch, Options, Verb, Wanted, WordKeys, run, run_with};
 use std::alloc::{AllocError, Global};
 use std::hash::RandomState;
 use std::process::Abort;
@@ -81,7 +81,14 @@ fn run_with_keys(
     let mut errors = writer(alloc, fails_at);
     let mut lines = Lines::new(alloc, Device::new(in_pieces(input, 16, 0, 0)))?;
     let wanted = wanted_of(alloc, words)?;
-    let status = run_with(&wanted, keys, &mut lines, &mut text, &mut errors);
+    let status = run_with(
+        &wanted,
+        keys,
+        &mut lines,
+        &mut text,
+        &mut errors,
+        &mut NoWatch {},
+    );
     Ok(RunReport {
         text: text.into_inner().inner,
         status,

@@ -14,6 +14,23 @@ use crate::copies::{copy_among, copy_command, copy_entries, copy_entry, copy_exp
 use crate::tree::{Among, Command, Group, NextCommand, RowOfCommands};
 use std::alloc::{AllocError, Global};
 
+/// A copy, and the number that is left after its amongs.
+type Copied<T> = Result<(T, u64), AllocError>;
+
+/// Copies each of these parts, with the number that is left after those before it.
+macro_rules! put_in_each {
+    ($alloc:expr; $part:ident in $parts:ident, $at:ident => $rest:ident; $copy:ident: $put:expr => $pushed:expr) => {{
+        let mut copies = Vec::new($alloc);
+        let mut $rest = $at;
+        for $part in $parts {
+            let ($copy, after) = $put?;
+            copies.push($pushed)?;
+            $rest = after;
+        }
+        Ok((copies, $rest))
+    }};
+}
+
 /// Puts a command into a box. It is dropped here if an allocation fails, so no caller has to prove that again.
 fn box_command(alloc: Global, command: Command) -> Result<Box<Command>, AllocError>
     ensures { IfOk result (λ b. b.value ≡ command) }
@@ -32,7 +49,7 @@ impl Replacement<'_> {
     /// Returns a copy with `among` in place of the among with number `at`, counted from 1. Subtracts the number of amongs
     /// in the command from `at`.
     #[cycle(put_among)]
-    fn put_in_command(&self, command: &Command, at: u64) -> Result<(Command, u64), AllocError>
+    fn put_in_command(&self, command: &Command, at: u64) -> Copied<Command>
         ensures put { IfOk result (λ x. view_command x.0 ≡ spec.put_among (view_command command.now) at (view_among self.now.among.now)) }
         ensures rest { IfOk result (λ x. x.1 ≡ at - count_amongs (view_command command.now)) }
     {
@@ -68,7 +85,7 @@ impl Replacement<'_> {
     }
 
     #[cycle(put_among)]
-    fn put_in_one(&self, one: &Among, at: u64) -> Result<(Among, u64), AllocError>
+    fn put_in_one(&self, one: &Among, at: u64) -> Copied<Among>
         ensures put { IfOk result (λ x. view_among x.0 ≡ put_in_among (view_among one.now) at (view_among self.now.among.now)) }
         ensures rest { IfOk result (λ x. x.1 ≡ at - count_in_among (view_among one.now)) }
     {
@@ -96,7 +113,7 @@ impl Replacement<'_> {
     }
 
     #[cycle(put_among)]
-    fn put_in_groups(&self, groups: &Vec<Group>, at: u64) -> Result<(Vec<Group>, u64), AllocError>
+    fn put_in_groups(&self, groups: &Vec<Group>, at: u64) -> Copied<Vec<Group>>
         ensures put { IfOk result (λ x. (bare : List trees.Entry) → view_groups x.0.items bare ≡ spec.put_in_groups (view_groups groups.now.items bare) at (view_among self.now.among.now)) }
         ensures rest { IfOk result (λ x. (bare : List trees.Entry) → x.1 ≡ at - count_in_groups (view_groups groups.now.items bare)) }
     {
@@ -117,26 +134,15 @@ impl Replacement<'_> {
     }
 
     #[cycle(put_among)]
-    fn put_in_rows(
-        &self,
-        rows: &Vec<RowOfCommands>,
-        at: u64,
-    ) -> Result<(Vec<RowOfCommands>, u64), AllocError>
+    fn put_in_rows(&self, rows: &Vec<RowOfCommands>, at: u64) -> Copied<Vec<RowOfCommands>>
         ensures put { IfOk result (λ x. view_rows x.0.items ≡ spec.put_in_rows (view_rows rows.now.items) at (view_among self.now.among.now)) }
         ensures rest { IfOk result (λ x. x.1 ≡ at - count_in_rows (view_rows rows.now.items)) }
     {
-        let mut copies = Vec::new(self.alloc);
-        let mut rest = at;
-        for row in rows {
-            let (copy, after) = self.put_in_row(row, rest)?;
-            copies.push(copy)?;
-            rest = after;
-        }
-        Ok((copies, rest))
+        put_in_each!(self.alloc; row in rows, at => rest; copy: self.put_in_row(row, rest) => copy)
     }
 
     #[cycle(put_among)]
-    fn put_in_row(&self, row: &RowOfCommands, at: u64) -> Result<(RowOfCommands, u64), AllocError>
+    fn put_in_row(&self, row: &RowOfCommands, at: u64) -> Copied<RowOfCommands>
         ensures put { IfOk result (λ x. view_row x.0 ≡ put_in_body (view_row row.now) at (view_among self.now.among.now)) }
         ensures rest { IfOk result (λ x. x.1 ≡ at - count_amongs (view_row row.now).0 - count_in_others (view_row row.now).1) }
     {
@@ -146,25 +152,13 @@ impl Replacement<'_> {
     }
 
     #[cycle(put_among)]
-    fn put_after(
-        &self,
-        others: &Vec<NextCommand>,
-        at: u64,
-    ) -> Result<(Vec<NextCommand>, u64), AllocError>
+    fn put_after(&self, others: &Vec<NextCommand>, at: u64) -> Copied<Vec<NextCommand>>
         ensures put { IfOk result (λ x. view_others x.0.items ≡ spec.put_in_others (view_others others.now.items) at (view_among self.now.among.now)) }
         ensures rest { IfOk result (λ x. x.1 ≡ at - count_in_others (view_others others.now.items)) }
     {
-        let mut copies = Vec::new(self.alloc);
-        let mut rest = at;
-        for joined in others {
-            let (command, after) = self.put_in_command(&joined.command, rest)?;
-            copies.push(NextCommand {
-                joiner: joined.joiner,
-                command,
-            })?;
-            rest = after;
-        }
-        Ok((copies, rest))
+        put_in_each!(self.alloc; joined in others, at => rest; command: self.put_in_command(&joined.command, rest) => {
+            NextCommand { joiner: joined.joiner, command }
+        })
     }
 }
 

@@ -10,9 +10,17 @@ use Rattle.sbl_input.specs.Loading.{AllText, TookWords, WordLines}
 use Rattle.sbl_input.specs.declared.faults.LoadFault.{LoadFault}
 use Rattle.sbl_input.specs.declared.faults.LoadFault.TheVariants.{Input, Open}
 use Rattle.sbl_io.specs.HeldInput.{AllFit, Took, input_of}
+use Rattle.sbl_io.specs.Records.{record_line}
 use Rattle.sbl_io.specs.declared.lines.Lines.{Lines}
 use Rattle.sbl_io.specs.declared.faults.ServeFault.TheVariants as fault
-use Rattle.sbl_semantics.specs.Limit.{max_word_length}
+use Rattle.sbl_reports.specs.RowRecords.{row_fields}
+use Rattle.sbl_rows.specs.Rows.{row_of}
+use Rattle.sbl_rows.specs.Setting.{under}
+use Rattle.sbl_semantics.specs.Limit.{default_limit, max_word_length}
+
+-- the line of a word's row under the default limit
+abbrev pub word_line : Source → List ℕ → List ℕ
+word_line s word = record_line (row_fields (row_of (under s default_limit) word))
 
 -- a first part of a text was written, and the rest of it is left
 abbrev pub WritesPart : Option (List ℕ) → Option (List ℕ) → List ℕ → List ℕ → Type 0

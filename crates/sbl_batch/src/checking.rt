@@ -130,6 +130,13 @@ fn compare<W: Sink>(
     }
 }
 
+/// The words of a check, and the stems that are expected for them: one a line.
+#[derive(Clone, Copy)]
+pub struct CheckedLists<'a> {
+    pub words: &'a [u8],
+    pub expected: &'a [u8],
+}
+
 /// Runs the script on each line of `words`, also on empty lines and repeated words, and compares the result with the
 /// same line of `expected`. Writes a row `LINE,WORD,EXPECTED,GOT` for each difference, with lines counted from 1, and
 /// returns the number of differences. GOT is the stem, or `refused NAME` if the run is refused; a word of more than 255
@@ -157,27 +164,27 @@ pub fn check<W: Sink>(
     ensures why { IfErr result (λ fault. fault ≡ ServeFault.Write → HasStopped W.tally writer.old writer.new) }
     ensures writes_in_time { WritesInTime W.tally writer.old writer.new }
 {
-    check_observed(alloc, script, words, expected, writer, &mut NoProgress {})
+    let lists = CheckedLists { words, expected };
+    check_observed(alloc, script, lists, writer, &mut NoProgress {})
 }
 
 /// Does what `check` does. `progress` sees how many lines were compared.
 pub fn check_observed<W: Sink, P: Progress>(
     alloc: Global,
     script: &Script,
-    words: &[u8],
-    expected: &[u8],
+    lists: CheckedLists<'_>,
     writer: &mut W,
     progress: &mut P,
 ) -> Result<u64, ServeFault>
-    ensures checked { IsChecked (source_of script.now) words.now expected.now (W.held writer.old) (W.held writer.new) result }
+    ensures checked { IsChecked (source_of script.now) lists.entry.words.now lists.entry.expected.now (W.held writer.old) (W.held writer.new) result }
     ensures steady { OnOk result ((W.tally writer.new).failures ≡ (W.tally writer.old).failures) }
     ensures why { IfErr result (λ fault. fault ≡ ServeFault.Write → HasStopped W.tally writer.old writer.new) }
     ensures writes_in_time { WritesInTime W.tally writer.old writer.new }
 {
     let machine = Machine::new(alloc, script)?;
     let mut meter = Meter::new();
-    let mut words_left = words;
-    let mut expected_left = expected;
+    let mut words_left = lists.words;
+    let mut expected_left = lists.expected;
     let mut number = 0;
     let mut differences = 0;
     while let Some((word, words_after)) = first_line(words_left) {

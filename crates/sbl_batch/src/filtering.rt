@@ -48,7 +48,6 @@ fn put_ascii(characters: &mut Vec<char>, word: &[u8]) -> Result<(), AllocError>
 /// Appends the row of a word of these characters to the rows that are not written yet; an empty word has no row. Returns `WordTooLong`
 /// and `OutOfMemory` as `filter_line` does.
 fn filter_word(
-    alloc: Global,
     machine: &Machine<Table>,
     meter: &mut Meter,
     rows: &mut RowWriter,
@@ -66,14 +65,13 @@ fn filter_word(
     if characters.is_empty() {
         return Ok(());
     }
-    rows.push_row(alloc, machine, meter, word, characters)?;
+    rows.push_row(machine, meter, word, characters)?;
     Ok(())
 }
 
 /// Appends the row of the word in a line to the rows that are not written yet; an empty line has no row. Returns `NotText` if the line
 /// is not UTF-8, `WordTooLong` if it has more than 255 characters, and `OutOfMemory` if an allocation fails; the rows then stay.
 pub(crate) fn filter_line(
-    alloc: Global,
     machine: &Machine<Table>,
     meter: &mut Meter,
     rows: &mut RowWriter,
@@ -86,9 +84,10 @@ pub(crate) fn filter_line(
     let Ok(word) = str::from_utf8(line) else {
         return Err(LoadFault::Input(ServeFault::NotText));
     };
+    let alloc = *rows.characters.allocator();
     let mut characters = mem::replace(&mut rows.characters, Vec::new(alloc));
     put_characters(&mut characters, word)?;
-    let filtered = filter_word(alloc, machine, meter, rows, word, &characters);
+    let filtered = filter_word(machine, meter, rows, word, &characters);
     rows.characters = characters;
     filtered
 }
@@ -118,16 +117,16 @@ fn read_words<R: Source + Drop, W: Sink>(
     ensures writes_in_time { WritesInTime W.tally writer.old writer.new }
     ensures rested { (rows.new.text.items ≡ []) ⊎ ((W.tally writer.old).interruptions ≡ 0 → (W.tally writer.new).interruptions ≡ 0) }
 {
-    let alloc = lines.alloc();
     loop {
-        rows.write_due(lines.holds_line(), writer)?;
+        let due = rows.is_due(lines.holds_line());
+        rows.write_if(due, writer)?;
         if !lines.next_line()? {
             return Ok(());
         }
         if lines.line() == b".".as_slice() {
             return Ok(());
         }
-        filter_line(alloc, machine, meter, rows, lines.line())?;
+        filter_line(machine, meter, rows, lines.line())?;
     }
 }
 
@@ -153,7 +152,7 @@ fn filter_words<R: Source + Drop, W: Sink>(
     let mut meter = Meter::new();
     let mut rows = RowWriter::new(alloc);
     let ended = read_words(lines, &machine, &mut meter, &mut rows, writer);
-    rows.write_to(writer)?;
+    rows.write_if(true, writer)?;
     ended
 }
 

@@ -13,7 +13,7 @@ mod to_end;
 mod word_fault;
 
 pub use bench_pair::{BenchPair, CompareFault, CompareInput, open_pair};
-pub use checking::{check, check_observed};
+pub use checking::{CheckedLists, check, check_observed};
 pub use comparing::{ScriptComparison, compare, compare_status, write_comparison};
 pub use comparison_rows::comparison_text;
 pub use filtering::filter;

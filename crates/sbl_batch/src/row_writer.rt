@@ -1,17 +1,13 @@
 //! The rows of words, made one after another and written together.
-ghost use Rattle.std.specs.Prelude.{◌≡◌, ◌≤◌, ◌++◌, [], ℕ, length, take, false, Ok, IfErr, OnErr, OnOk};
+ghost use Rattle.std.specs.Prelude.{◌≡◌, ◌≤◌, ◌++◌, [], ℕ, length, take, false, true, Ok, IfErr, OnErr, OnOk};
 ghost use Rattle.std.specs.Str.{chars};
 ghost use Rattle.std.specs.Io.KnownBytes.{Appends};
-ghost use Rattle.sbl_rows.specs.Rows.{row_of};
-ghost use Rattle.sbl_rows.specs.Setting.{under};
-ghost use Rattle.sbl_semantics.specs.Limit.{default_limit, max_word_length};
+ghost use Rattle.sbl_semantics.specs.Limit.{max_word_length};
 ghost use Rattle.sbl_machine.specs.MachineOf.{IsLinkedMachineOf};
 ghost use Rattle.sbl_io.specs.Devices.{HasStopped, WritesInTime};
-ghost use Rattle.sbl_io.specs.Records.{record_line};
 ghost use Rattle.sbl_ast.specs.Source.{Source};
-ghost use Rattle.sbl_batch.specs.HeldRows.{WritesPart};
+ghost use Rattle.sbl_batch.specs.HeldRows.{WritesPart, word_line};
 ghost use Rattle.sbl_batch.specs.LineWriter.{IsBetweenLines};
-ghost use Rattle.sbl_reports.specs.RowRecords.{row_fields};
 
 use crate::lines::{line_writer, push_line};
 use csv::Writer;
@@ -57,12 +53,25 @@ impl RowWriter {
         }
     }
 
-    /// Writes the rows that are not written yet. Returns `Write` as `write_all` does; then a prefix of them is written, and the rest is
-    /// forgotten.
-    pub(crate) fn write_to<W: Sink>(&mut self, writer: &mut W) -> Result<(), ServeFault>
-        ensures all { OnOk result (Appends (W.held writer.old) (W.held writer.new) self.old.text.items) }
+    /// Returns whether the rows are to be written: no whole line is held, so that a read may follow, or they took many steps or are many.
+    pub(crate) fn is_due(&self, holds_line: bool) -> bool
+        ensures { holds_line ≡ false → result ≡ true }
+    {
+        !holds_line || MOST_STEPS < self.steps || MOST_BYTES < self.text.len()
+    }
+
+    /// Writes the rows that are not written yet if `is_due`. Returns `Write` as `write_all` does; then a prefix of them is written, and
+    /// the rest is forgotten.
+    pub(crate) fn write_if<W: Sink>(
+        &mut self,
+        is_due: bool,
+        writer: &mut W,
+    ) -> Result<(), ServeFault>
+        ensures part { OnOk result (WritesPart (W.held writer.old) (W.held writer.new) self.old.text.items self.new.text.items) }
+        ensures all { OnOk result (is_due ≡ true → Appends (W.held writer.old) (W.held writer.new) self.old.text.items) }
         ensures prefix { (n : ℕ) × Appends (W.held writer.old) (W.held writer.new) (take n self.old.text.items) }
-        ensures empty { self.new.text.items ≡ [] }
+        ensures due { is_due ≡ true → self.new.text.items ≡ [] }
+        ensures cut { OnErr result (self.new.text.items ≡ []) }
         ensures none { self.old.text.items ≡ [] → (result ≡ Ok tt) × (writer.new ≡ writer.old) }
         ensures lines { self.new.lines ≡ self.old.lines }
         ensures later { (W.tally writer.old).failures ≤ (W.tally writer.new).failures }
@@ -71,6 +80,9 @@ impl RowWriter {
         ensures in_time { WritesInTime W.tally writer.old writer.new }
         ensures rested { OnOk result ((W.tally writer.old).interruptions ≡ 0 → (W.tally writer.new).interruptions ≡ 0) }
     {
+        if !is_due {
+            return Ok(());
+        }
         self.steps = 0;
         if self.text.is_empty() {
             return Ok(());
@@ -80,35 +92,10 @@ impl RowWriter {
         written
     }
 
-    /// Writes the rows that are not written yet if no whole line is held, so that a read may follow, or if they took many steps or are
-    /// many. Returns `Write` as `write_to` does.
-    pub(crate) fn write_due<W: Sink>(
-        &mut self,
-        holds_line: bool,
-        writer: &mut W,
-    ) -> Result<(), ServeFault>
-        ensures part { OnOk result (WritesPart (W.held writer.old) (W.held writer.new) self.old.text.items self.new.text.items) }
-        ensures prefix { (n : ℕ) × Appends (W.held writer.old) (W.held writer.new) (take n self.old.text.items) }
-        ensures before_read { holds_line ≡ false → self.new.text.items ≡ [] }
-        ensures cut { OnErr result (self.new.text.items ≡ []) }
-        ensures lines { self.new.lines ≡ self.old.lines }
-        ensures later { (W.tally writer.old).failures ≤ (W.tally writer.new).failures }
-        ensures steady { OnOk result ((W.tally writer.new).failures ≡ (W.tally writer.old).failures) }
-        ensures why { IfErr result (λ fault. (fault ≡ ServeFault.Write) × HasStopped W.tally writer.old writer.new) }
-        ensures in_time { WritesInTime W.tally writer.old writer.new }
-        ensures rested { OnOk result ((W.tally writer.old).interruptions ≡ 0 → (W.tally writer.new).interruptions ≡ 0) }
-    {
-        if !holds_line || MOST_STEPS < self.steps || MOST_BYTES < self.text.len() {
-            return self.write_to(writer);
-        }
-        Ok(())
-    }
-
     /// Runs the script on a word of these characters, and appends the word's row to those that are not written yet. Returns
     /// `AllocError` if an allocation fails; the rows then stay.
     pub(crate) fn push_row(
         &mut self,
-        alloc: Global,
         machine: &Machine<Table>,
         meter: &mut Meter,
         word: &str,
@@ -117,10 +104,11 @@ impl RowWriter {
         requires is { characters.now ≡ chars word.now }
         requires fits { length characters.now ≤ max_word_length }
         requires between { IsBetweenLines self.old.lines }
-        ensures row { (s : Source) → IsLinkedMachineOf machine.now s → OnOk result (self.new.text.items ≡ self.old.text.items ++ record_line (row_fields (row_of (under s default_limit) (chars word.now)))) }
+        ensures row { (s : Source) → IsLinkedMachineOf machine.now s → OnOk result (self.new.text.items ≡ self.old.text.items ++ word_line s (chars word.now)) }
         ensures stays { OnErr result (self.new.text.items ≡ self.old.text.items) }
         ensures between { OnOk result (IsBetweenLines self.new.lines) }
     {
+        let alloc = *self.text.allocator();
         // The lines of a reader are fewer than a meter counts, so the only error is a failed allocation.
         let Ok(end) = machine.run_untraced(alloc, meter, characters, DEFAULT_LIMIT) else {
             return Err(AllocError);

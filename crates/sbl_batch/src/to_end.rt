@@ -45,13 +45,13 @@ fn read_lines<R: Source + Drop, W: Sink>(
     ensures writes_in_time { WritesInTime W.tally writer.old writer.new }
     ensures rested { (rows.new.text.items ≡ []) ⊎ ((W.tally writer.old).interruptions ≡ 0 → (W.tally writer.new).interruptions ≡ 0) }
 {
-    let alloc = lines.alloc();
     loop {
-        rows.write_due(lines.holds_line(), writer)?;
+        let due = rows.is_due(lines.holds_line());
+        rows.write_if(due, writer)?;
         if !lines.next_line()? {
             return Ok(());
         }
-        filter_line(alloc, machine, meter, rows, lines.line())?;
+        filter_line(machine, meter, rows, lines.line())?;
         *line = line.saturating_add(1);
     }
 }
@@ -79,7 +79,7 @@ fn filter_lines<R: Source + Drop, W: Sink>(
     let mut meter = Meter::new();
     let mut rows = RowWriter::new(alloc);
     let ended = read_lines(lines, &machine, &mut meter, &mut rows, writer, line);
-    rows.write_to(writer)?;
+    rows.write_if(true, writer)?;
     ended
 }
 

@@ -69,7 +69,7 @@ impl Bench {
         ensures told { IfErr result (λ f. BreaksIfTold (B.said break_off.old) (B.said break_off.new) f) }
     {
         let list = vocabulary_of(self.alloc, words)?;
-        let traces = make_traces(
+        let traces = runs_of(
             self.alloc,
             &self.machine,
             self.limit,
@@ -204,44 +204,9 @@ fn put(alloc: Global, traces: &mut Traces, word: &[char], last: LastRun) -> Resu
 ///
 /// # Errors
 ///
-/// Returns `OutOfMemory` if an allocation fails, and `BrokenOff` if `break_off` says so before a run.
+/// Returns `MeterFull` if fewer counts of runs are left than there are new words; nothing is run then. Returns `OutOfMemory` if an
+/// allocation fails, and `BrokenOff` if `break_off` says so before a run.
 fn runs_of<B: BreakOff>(
-    alloc: Global,
-    machine: &Machine<Table>,
-    limit: u32,
-    meter: &mut Meter,
-    before: &Traces,
-    words: &[&[char]],
-    break_off: &mut B,
-) -> Result<Traces, EditFault>
-    requires sound { All IsWord (texts_of words.now) }
-    requires distinct { IsDistinct bytes_eq (texts_of words.now) }
-    requires room { meter.old + length (new_words (words_in before.now.entries) (texts_of words.now)) ≤ max_runs }
-    ensures words { IfOk result (λ traces. words_in traces.entries ≡ texts_of words.now) }
-    ensures fresh { (s : Source) → IsLinkedMachineOf machine.now s → AreFresh (under s limit) before.now.entries → IfOk result (λ traces. AreFresh (under s limit) traces.entries) }
-    ensures counted { OnOk result (meter.new ≡ meter.old + length (new_words (words_in before.now.entries) (texts_of words.now))) }
-    ensures stop { IfErr result (λ f. IsStopOf (length (new_words (words_in before.now.entries) (texts_of words.now))) f meter.old meter.new) }
-    ensures untold { OnOk result (B.said break_off.new ≡ B.said break_off.old) }
-    ensures told { IfErr result (λ f. BreaksIfTold (B.said break_off.old) (B.said break_off.new) f) }
-{
-    let mut traces = IndexMap::with_hasher(alloc, *before.hasher());
-    traces.reserve(words.len())?;
-    let mut lists = SharedLists::new(alloc);
-    for word in words {
-        let last = run_of(
-            alloc, machine, limit, meter, &mut lists, before, word, break_off,
-        )?;
-        put(alloc, &mut traces, word, last)?;
-    }
-    Ok(traces)
-}
-
-/// Returns the words with their runs, as `runs_of` does. Runs nothing if too few counts are left.
-///
-/// # Errors
-///
-/// Returns `MeterFull` if fewer counts of runs are left than there are new words, and the faults of `runs_of`.
-fn make_traces<B: BreakOff>(
     alloc: Global,
     machine: &Machine<Table>,
     limit: u32,
@@ -260,9 +225,19 @@ fn make_traces<B: BreakOff>(
     ensures untold { OnOk result (B.said break_off.new ≡ B.said break_off.old) }
     ensures told { IfErr result (λ f. BreaksIfTold (B.said break_off.old) (B.said break_off.new) f) }
 {
-    if u64::MAX - meter.count() < count_new(before, words) as u64 {
+    let left = u64::MAX - meter.count();
+    let needed = count_new(before, words) as u64;
+    if left < needed {
         return Err(EditFault::MeterFull);
     }
-    let traces = runs_of(alloc, machine, limit, meter, before, words, break_off)?;
+    let mut traces = IndexMap::with_hasher(alloc, *before.hasher());
+    traces.reserve(words.len())?;
+    let mut lists = SharedLists::new(alloc);
+    for word in words {
+        let last = run_of(
+            alloc, machine, limit, meter, &mut lists, before, word, break_off,
+        )?;
+        put(alloc, &mut traces, word, last)?;
+    }
     Ok(traces)
 }

@@ -44,6 +44,21 @@ agree_set n xs v = record {
   same = λ j l. let ne : j ≢ n = omega arith in get_or-set_other xs n j v no_cursor ne;
 }
 
+-- the slots after a cursor is saved in slot n
+pub record SavedThere (n : ℕ) (slots zs : List SavedCursor) (v : SavedCursor) : Type 0 where
+  pub kept : Agree n slots zs
+  pub many : length zs ≡ 4
+  pub got : slice_index_or zs n no_cursor ≡ v
+
+pub saved_there : (n : ℕ) (slots ys : List SavedCursor) (v : SavedCursor) → n < 4 → length slots ≡ 4 → Agree n slots ys → SavedThere n slots (slice_set ys n v) v
+saved_there n slots ys v small l a =
+    let room : n < length ys = omega (arith, a.as_many, l, small) in
+    record {
+      kept = agree_then n slots ys (slice_set ys n v) a (agree_set n ys v);
+      many = length-set ys n v ∙ a.as_many ∙ l;
+      got = get_or-set_same ys n v no_cursor room;
+    }
+
 -- ---- going on
 
 pub goes_with : (f : Flow) (m : Mode) (n : ℕ) (xs ys : List SavedCursor) (go : State → Ending) → Agree n xs ys → GoesOn f m n xs go → GoesOn f m n ys go
@@ -156,16 +171,13 @@ pub saving :
     Performs tables (λ p levels. wrapped_of on_t on_f (c p levels)) cost n next fail entry
 saving tables c on_t on_f cost n next fail own_next own_fail inner entry small saves h lt lf p levels m slots go stop l g k ys a s =
     let d = λ (u : State). wrapped_of on_t on_f (c p levels) m u in
-    let room : n < length ys = omega (arith, a.as_many, l) in
     let inside = λ (u : State).
     let v = saved_cursor u in
     let zs = slice_set ys n v in
-    let kept : Agree n slots zs = agree_then n slots ys zs a (agree_set n ys v) in
-    let many : length zs ≡ 4 = length-set ys n v ∙ a.as_many ∙ l in
-    let got : slice_index_or zs n no_cursor ≡ v = get_or-set_same ys n v no_cursor room in
-    h p levels m zs (λ t. after (on_t m (slice_index_or zs n no_cursor) t) go stop) (λ t. after (on_f m (slice_index_or zs n no_cursor) t) go stop) many
-    (lt p levels m slots zs go stop g k kept) (lf p levels m slots zs go stop g k kept) zs (agree_self (suc n) zs) u (λ t. ap (λ w. put_back m w t) (sym got))
-    ∙ ap (λ w. after (c p levels m u) (λ t. after (on_t m w t) go stop) (λ t. after (on_f m w t) go stop)) got
+    let there = saved_there n slots ys v small l a in
+    h p levels m zs (λ t. after (on_t m (slice_index_or zs n no_cursor) t) go stop) (λ t. after (on_f m (slice_index_or zs n no_cursor) t) go stop) there.many
+    (lt p levels m slots zs go stop g k there.kept) (lf p levels m slots zs go stop g k there.kept) zs (agree_self (suc n) zs) u (λ t. ap (λ w. put_back m w t) (sym there.got))
+    ∙ ap (λ w. after (c p levels m u) (λ t. after (on_t m w t) go stop) (λ t. after (on_f m w t) go stop)) there.got
     ∙ sym (after_after (c p levels m u) (on_t m v) (on_f m v) go stop)
     in
     saves p levels tables m ys s
@@ -196,14 +208,21 @@ made_of tables of d body cost n next fail entry r h =
 
 -- ---- commands
 
+-- what a command does after its own step
+abbrev pub Does : (ℕ → Listing) → Meaning → Node → Type 0
+Does tables d x = (p : programs.Program) (levels : ℕ) (m : Mode) (s : State) → runs_paid p levels (view_node tables x) m s ≡ d p levels m s
+
+pub arm_means :
+    (tables : ℕ → Listing) (d : Meaning) (node x : Node) → node ≡ x → Does tables d x →
+    (p : programs.Program) (levels : ℕ) (m : Mode) (s : State) → pay_first (d p levels) m s ≡ runs p levels (view_node tables node) m s
+arm_means tables d node x e q p levels m s =
+    ap (λ f. then_on (pay s.steps s) f) (fun_ext (λ u. sym (q p levels m u))) ∙ ap (λ y. runs p levels (view_node tables y) m s) (sym e)
+
 -- the instructions of a command, by what it does after its own step
 pub arm :
-    (tables : ℕ → Listing) (d : Meaning) (node x : Node) (cost n : ℕ) (next fail entry : Instruction) → node ≡ x →
-    ((p : programs.Program) (levels : ℕ) (m : Mode) (s : State) → runs_paid p levels (view_node tables x) m s ≡ d p levels m s) →
+    (tables : ℕ → Listing) (d : Meaning) (node x : Node) (cost n : ℕ) (next fail entry : Instruction) → node ≡ x → Does tables d x →
     Performs tables (λ p levels. pay_first (d p levels)) cost n next fail entry → Performs tables (λ p levels. runs p levels (view_node tables node)) cost n next fail entry
-arm tables d node x cost n next fail entry e q =
-    same_meaning tables (λ p levels. pay_first (d p levels)) (λ p levels. runs p levels (view_node tables node)) cost n next fail entry
-    (λ p levels m s. ap (λ f. then_on (pay s.steps s) f) (fun_ext (λ u. sym (q p levels m u))) ∙ ap (λ y. runs p levels (view_node tables y) m s) (sym e))
+arm tables d node x cost n next fail entry e q = same_meaning tables (λ p levels. pay_first (d p levels)) (λ p levels. runs p levels (view_node tables node)) cost n next fail entry (arm_means tables d node x e q)
 
 -- one step, and then a command
 pub one_step :

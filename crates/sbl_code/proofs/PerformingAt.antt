@@ -13,7 +13,7 @@ use Rattle.sbl_program.specs.declared.node.Node.TheVariants.{Act}
 use Rattle.sbl_program.specs.declared.node.Node.{Node}
 use Rattle.sbl_program.specs.Rows.{pays}
 use Rattle.sbl_program.specs.Actions.{acts, test_grouping}
-use Rattle.sbl_program.specs.Run.{runs, runs_paid, all_run}
+use Rattle.sbl_program.specs.Run.{runs, all_run}
 use Rattle.sbl_program.proofs.Turns.{turn_is}
 use Rattle.sbl_semantics.specs.Fitting.{read_as}
 use Rattle.sbl_semantics.specs.Moves.{match, touch_grouping}
@@ -29,7 +29,7 @@ use Rattle.sbl_code.specs.declared.instruction.Instruction.{Instruction}
 use Rattle.sbl_code.specs.Flow.{flow, back_if}
 use Rattle.sbl_code.specs.Performs.{IsAt, Meaning, Performs, PerformsAt, Restores, Tests}
 use Rattle.sbl_code.proofs.Endings.{after_after, after_same, then_same, own_step}
-use Rattle.sbl_code.proofs.Performing.{after_steps}
+use Rattle.sbl_code.proofs.Performing.{Does, after_steps, arm_means}
 use Rattle.sbl_code.proofs.ProgramViews.{act_does}
 
 -- ---- where the cursor is
@@ -129,12 +129,9 @@ first_step_at tables d cost more n next fail entry is h p levels m slots go stop
     ∙ ap (λ r. after r go stop) (own_step cost s (d p levels) m)
 
 pub arm_at :
-    (tables : ℕ → Listing) (d : Meaning) (node x : Node) (cost n : ℕ) (next fail entry : Instruction) → node ≡ x →
-    ((p : programs.Program) (levels : ℕ) (m : Mode) (s : State) → runs_paid p levels (view_node tables x) m s ≡ d p levels m s) →
+    (tables : ℕ → Listing) (d : Meaning) (node x : Node) (cost n : ℕ) (next fail entry : Instruction) → node ≡ x → Does tables d x →
     PerformsAt tables (λ p levels. pay_first (d p levels)) cost n next fail entry → PerformsAt tables (λ p levels. runs p levels (view_node tables node)) cost n next fail entry
-arm_at tables d node x cost n next fail entry e q =
-    same_meaning_at tables (λ p levels. pay_first (d p levels)) (λ p levels. runs p levels (view_node tables node)) cost n next fail entry
-    (λ p levels m s. ap (λ f. then_on (pay s.steps s) f) (fun_ext (λ u. sym (q p levels m u))) ∙ ap (λ y. runs p levels (view_node tables y) m s) (sym e))
+arm_at tables d node x cost n next fail entry e q = same_meaning_at tables (λ p levels. pay_first (d p levels)) (λ p levels. runs p levels (view_node tables node)) cost n next fail entry (arm_means tables d node x e q)
 
 -- one after another
 pub in_turn_at :

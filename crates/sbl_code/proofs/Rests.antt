@@ -1,6 +1,5 @@
 -- Where a row goes on after its first command, and the groups of an among one after another.
-use Rattle.std.proofs.Common.{◌≡◌, ℕ, ◌<◌, suc, Bool, true, false, List, [], ◌∷◌, ◌++◌, length, refl, sym, ap, subst, ◌∙◌, arith, get_or-set_same}
-use Rattle.std.proofs.lemmas.List.{length-set}
+use Rattle.std.proofs.Common.{◌≡◌, ℕ, ◌<◌, suc, Bool, true, false, List, [], ◌∷◌, ◌++◌, length, refl, sym, ap, subst, ◌∙◌, arith}
 use Rattle.std.specs.Prelude.{slice_index_or, slice_set, if◌then◌else◌}
 use Rattle.sbl_ast.specs.declared.tree.Joiner.TheVariants.{Or, And}
 use Rattle.sbl_program.specs.AmongStrings.{Listing}
@@ -19,10 +18,10 @@ use Rattle.sbl_code.specs.declared.instruction.GroupCode.{GroupCode, out-GroupCo
 use Rattle.sbl_code.specs.declared.assembler.Exits.{Exits}
 use Rattle.sbl_code.specs.Slots.{no_cursor}
 use Rattle.sbl_code.specs.Flow.{flow}
-use Rattle.sbl_code.specs.Performs.{Agree, GoesOn, Meaning, Performs, PerformsAt, Saves, PerformsWithExits, Restores, IsRest, ArePerformed}
+use Rattle.sbl_code.specs.Performs.{GoesOn, Meaning, Performs, PerformsAt, Saves, PerformsWithExits, Restores, IsRest, ArePerformed}
 use Rattle.sbl_code.proofs.Endings.{after_after, after_same, then_same, back_passes}
 use Rattle.sbl_code.proofs.PerformingAt.{back_at}
-use Rattle.sbl_code.proofs.Performing.{agree_self, agree_then, agree_set, after_steps, goes_deeper}
+use Rattle.sbl_code.proofs.Performing.{agree_self, after_steps, goes_deeper, saved_there}
 
 module _ (p : programs.Program) (levels : ℕ) (m : Mode) where
   -- what is left of a row after an ending is what is left after its signal
@@ -108,17 +107,14 @@ pub saving_row :
     Performs tables (λ p levels m s. others_run p levels m (saved_cursor s) os (c p levels m s)) cost n exits.next.value exits.fail.value entry
 saving_row tables c os cost n exits rest inner entry small saves h row p levels m slots go stop l g k ys a s =
     let d = λ (u : State). others_run p levels m (saved_cursor u) os (c p levels m u) in
-    let room : n < length ys = omega (arith, a.as_many, l) in
     let inside = λ (u : State).
     let v = saved_cursor u in
     let zs = slice_set ys n v in
-    let kept : Agree n slots zs = agree_then n slots ys zs a (agree_set n ys v) in
-    let many : length zs ≡ 4 = length-set ys n v ∙ a.as_many ∙ l in
-    let got : slice_index_or zs n no_cursor ≡ v = get_or-set_same ys n v no_cursor room in
+    let there = saved_there n slots ys v small l a in
     let at = λ (w : SavedCursor) (b : Bool) (t : State). after (others_run p levels m w os (Signals b t)) go stop in
-    let q = row p levels m slots zs go stop l g k kept in
-    h p levels m zs (at (slice_index_or zs n no_cursor) true) (at (slice_index_or zs n no_cursor) false) many q.0 q.1 zs (agree_self (suc n) zs) u (λ t. ap (λ w. put_back m w t) (sym got))
-    ∙ ap (λ w. after (c p levels m u) (at w true) (at w false)) got
+    let q = row p levels m slots zs go stop l g k there.kept in
+    h p levels m zs (at (slice_index_or zs n no_cursor) true) (at (slice_index_or zs n no_cursor) false) there.many q.0 q.1 zs (agree_self (suc n) zs) u (λ t. ap (λ w. put_back m w t) (sym there.got))
+    ∙ ap (λ w. after (c p levels m u) (at w true) (at w false)) there.got
     ∙ sym (others_split p levels m v os (c p levels m u) go stop)
     in
     saves p levels tables m ys s

@@ -21,7 +21,7 @@ use Rattle.sbl_program.specs.Chains.{JoinedView}
 use Rattle.sbl_program.specs.Program as programs
 use Rattle.sbl_program.specs.ProgramOf.{view_next_command, view_node, view_routine}
 use Rattle.sbl_compiler.specs.declared.compiler.Compiler.{Compiler}
-use Rattle.sbl_compiler.specs.declared.place.CommandPosition.{CommandPosition as Position}
+use Rattle.sbl_compiler.specs.declared.place.Standing.{Standing}
 
 abbrev pub view_names : SymbolTable → names.Names
 view_names n = record {
@@ -35,7 +35,7 @@ view_names n = record {
 abbrev pub view_found : AmongStrings → amongs.AmongStrings
 view_found f = record { number = f.number; strings = listing_found f; entries = f.entries.items }
 
-abbrev pub view_place : List AmongStrings → Position → numbered.Position
+abbrev pub view_place : List AmongStrings → Standing → numbered.Position
 view_place fs p = record { coming = map view_found (drop p.next fs); following = p.following; waits = p.waits }
 
 -- the new amongs are what a function of the definitions makes of the old ones
@@ -52,7 +52,7 @@ AddsGroups ns groups old new =
     (bare : List trees.Entry) → amongs.entries_in ns (length groups) bare new ≡ amongs.entries_after ns 0 (view_groups groups bare) old
 
 -- the position before the first command of a script
-abbrev pub at_start : Position
+abbrev pub at_start : Standing
 at_start = record { next = 0; following = 0; waits = false }
 
 -- a row, compiled
@@ -74,7 +74,7 @@ integer_in c n = names.number_of (names_in c).integers n
 abbrev pub expression_in : Compiler → Expression → programs.Arithmetic
 expression_in c e = numbers.expression (names_in c) (view_expression e)
 
-abbrev pub place_in : Compiler → Position → numbered.Position
+abbrev pub place_in : Compiler → Standing → numbered.Position
 place_in c p = view_place c.amongs.now.items p
 
 abbrev pub node_in : Compiler → Node → programs.Node

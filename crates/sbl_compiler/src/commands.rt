@@ -13,7 +13,7 @@ ghost use Rattle.sbl_program.specs.Chains.{join_all};
 ghost use Rattle.sbl_program.specs.ProgramOf.{view_action, view_number, view_text};
 
 use crate::compiler::{CompileResult, Compiler, collect, whole};
-use crate::place::{CommandPosition, begin_region, end_waiting, inside, past_rows};
+use crate::place::{Standing, begin_region, end_waiting, inside, past_rows};
 use sbl_ast::{
     Among, Argument, Assignment, Command, Comparison, Count, Expression, Group, Joiner, Literal,
     Move, Naming, NextCommand, Prefix, RowOfCommands, Simple, Splice,
@@ -62,7 +62,7 @@ fn relation_of(comparison: Comparison) -> Relation
 }
 
 impl Compiler<'_> {
-    fn simple(&self, word: Simple, place: &mut CommandPosition) -> CompileResult<Node>
+    fn simple(&self, word: Simple, place: &mut Standing) -> CompileResult<Node>
         ensures made { IfOk result (λ n. node_in self.now n ≡ spec.simple word (place_in self.now place.old)) }
         ensures following { OnOk result (place_in self.now place.new ≡ spec.past_simple word (place_in self.now place.old)) }
     {
@@ -231,7 +231,7 @@ impl Compiler<'_> {
 
     /// Compiles a command, and moves `place` to the position after it. Returns `AllocError` if an allocation fails.
     #[cycle(commands)]
-    fn node_of(&self, command: &Command, place: &mut CommandPosition) -> CompileResult<Node>
+    fn node_of(&self, command: &Command, place: &mut Standing) -> CompileResult<Node>
         ensures made { IfOk result (λ n. node_in self.now n ≡ numbered_command (names_in self.now) (view_command command.now) (place_in self.now place.old)) }
         ensures following { OnOk result (place_in self.now place.new ≡ spec.past (view_command command.now) (place_in self.now place.old)) }
     {
@@ -288,11 +288,7 @@ impl Compiler<'_> {
     }
 
     #[cycle(commands)]
-    fn rows_of(
-        &self,
-        rows: &Vec<RowOfCommands>,
-        place: &mut CommandPosition,
-    ) -> CompileResult<Vec<Node>>
+    fn rows_of(&self, rows: &Vec<RowOfCommands>, place: &mut Standing) -> CompileResult<Vec<Node>>
         ensures made { IfOk result (λ v. map (node_in self.now) v.items ≡ numbered_rows (names_in self.now) (view_rows rows.now.items) (place_in self.now place.old)) }
         ensures following { OnOk result (place_in self.now place.new ≡ spec.past_rows (view_rows rows.now.items) (place_in self.now place.old)) }
     {
@@ -301,7 +297,7 @@ impl Compiler<'_> {
 
     /// Compiles a row, and moves `place` to the position after it. Returns `AllocError` if an allocation fails.
     #[cycle(commands)]
-    pub fn row_of(&self, row: &RowOfCommands, place: &mut CommandPosition) -> CompileResult<Node>
+    pub fn row_of(&self, row: &RowOfCommands, place: &mut Standing) -> CompileResult<Node>
         ensures made { IfOk result (λ n. node_in self.now n ≡ numbered_row (names_in self.now) (view_row row.now) (place_in self.now place.old)) }
         ensures following { OnOk result (place_in self.now place.new ≡ spec.past_others (view_row row.now).1 (spec.past (view_row row.now).0 (place_in self.now place.old))) }
     {
@@ -319,7 +315,7 @@ impl Compiler<'_> {
     fn others_of(
         &self,
         others: &Vec<NextCommand>,
-        place: &mut CommandPosition,
+        place: &mut Standing,
     ) -> CompileResult<Vec<JoinedNode>>
         ensures made { IfOk result (λ v. map (joined_in self.now) v.items ≡ spec.joins_in (names_in self.now) (view_others others.now.items) (place_in self.now place.old)) }
         ensures following { OnOk result (place_in self.now place.new ≡ spec.past_others (view_others others.now.items) (place_in self.now place.old)) }
@@ -330,7 +326,7 @@ impl Compiler<'_> {
     }
 
     #[cycle(commands)]
-    fn among_of(&self, among: &Among, place: &mut CommandPosition) -> CompileResult<Node>
+    fn among_of(&self, among: &Among, place: &mut Standing) -> CompileResult<Node>
         ensures made { IfOk result (λ n. node_in self.now n ≡ numbered_command (names_in self.now) (trees.among_ (view_among among.now).0 (view_among among.now).1) (place_in self.now place.old)) }
         ensures following { OnOk result (place_in self.now place.new ≡ spec.past (trees.among_ (view_among among.now).0 (view_among among.now).1) (place_in self.now place.old)) }
     {
@@ -355,7 +351,7 @@ impl Compiler<'_> {
     // Compiles the starter of an among, and moves `place` past it. Returns what the among does before the command of the
     // chosen group. Returns `AllocError` if an allocation fails.
     #[cycle(commands)]
-    fn before_of(&self, among: &Among, place: &mut CommandPosition) -> CompileResult<Vec<Node>>
+    fn before_of(&self, among: &Among, place: &mut Standing) -> CompileResult<Vec<Node>>
         ensures made { IfOk result (λ v. map (node_in self.now) v.items ≡ numbered_before (names_in self.now) (view_among among.now).0 (place_in self.now place.old)) }
         ensures following { OnOk result (place_in self.now place.new ≡ spec.past_starter (view_among among.now).0 (spec.inside (place_in self.now place.old))) }
     {
@@ -377,11 +373,7 @@ impl Compiler<'_> {
     // Compiles the rows in parentheses that are a region of their own, and moves `place` to the position after them.
     // Returns `AllocError` if an allocation fails.
     #[cycle(commands)]
-    fn region(
-        &self,
-        rows: &Vec<RowOfCommands>,
-        place: &mut CommandPosition,
-    ) -> CompileResult<Vec<Node>>
+    fn region(&self, rows: &Vec<RowOfCommands>, place: &mut Standing) -> CompileResult<Vec<Node>>
         ensures made { IfOk result (λ v. map (node_in self.now) v.items ≡ numbered_rows (names_in self.now) (view_rows rows.now.items) (spec.region (view_rows rows.now.items) (place_in self.now place.old))) }
         ensures following { OnOk result (place_in self.now place.new ≡ spec.past_rows (view_rows rows.now.items) (spec.end_waiting (place_in self.now place.old))) }
     {
@@ -392,11 +384,7 @@ impl Compiler<'_> {
     }
 
     #[cycle(commands)]
-    fn bodies_of(
-        &self,
-        groups: &Vec<Group>,
-        place: &mut CommandPosition,
-    ) -> CompileResult<Vec<Node>>
+    fn bodies_of(&self, groups: &Vec<Group>, place: &mut Standing) -> CompileResult<Vec<Node>>
         ensures made { IfOk result (λ v. (es : List trees.Entry) → map (node_in self.now) v.items ≡ numbered_groups (names_in self.now) (view_groups groups.now.items es) (place_in self.now place.old)) }
         ensures following { OnOk result ((bare : List trees.Entry) → place_in self.now place.new ≡ spec.past_groups (view_groups groups.now.items bare) (place_in self.now place.old)) }
     {

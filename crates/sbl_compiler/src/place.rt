@@ -10,9 +10,9 @@ ghost use Rattle.sbl_compiler.specs.NumberedView.{view_place};
 use sbl_ast::{Among, Command, Group, NextCommand, RowOfCommands, Simple};
 use sbl_program::AmongStrings;
 
-/// The position of a command.
+/// Where a command stands among the amongs of a script.
 #[derive(Clone, Copy)]
-pub struct CommandPosition {
+pub struct Standing {
     /// The number of the next among in the script.
     pub next: usize,
     /// The number of the amongs still to come that are after its region.
@@ -21,18 +21,29 @@ pub struct CommandPosition {
     pub waits: bool,
 }
 
+/// Returns the position after all of these parts.
+macro_rules! past_each {
+    ($part:ident in $parts:expr, $place:ident => $following:ident: $past:expr) => {{
+        let mut $following = $place;
+        for $part in $parts {
+            $following = $past;
+        }
+        $following
+    }};
+}
+
 /// Returns the number of amongs still to come.
-pub fn left_of(amongs: &Vec<AmongStrings>, place: CommandPosition) -> usize
+pub fn left_of(amongs: &Vec<AmongStrings>, place: Standing) -> usize
     ensures { result ≡ length (view_place amongs.now.items place).coming }
 {
     amongs.len().saturating_sub(place.next)
 }
 
 /// Returns the position inside the next among, after its word.
-pub fn inside(amongs: &Vec<AmongStrings>, place: CommandPosition) -> CommandPosition
+pub fn inside(amongs: &Vec<AmongStrings>, place: Standing) -> Standing
     ensures { view_place amongs.now.items result ≡ spec.inside (view_place amongs.now.items place) }
 {
-    CommandPosition {
+    Standing {
         next: if place.next < amongs.len() {
             place.next + 1
         } else {
@@ -44,35 +55,31 @@ pub fn inside(amongs: &Vec<AmongStrings>, place: CommandPosition) -> CommandPosi
 }
 
 /// Returns the same position, at which no `substring` waits.
-pub fn end_waiting(_amongs: &Vec<AmongStrings>, place: CommandPosition) -> CommandPosition
+pub fn end_waiting(_amongs: &Vec<AmongStrings>, place: Standing) -> Standing
     ensures { view_place _amongs.now.items result ≡ spec.end_waiting (view_place _amongs.now.items place) }
 {
-    CommandPosition {
+    Standing {
         waits: false,
         ..place
     }
 }
 
 /// Returns the position at the beginning of a region; `following` is the position after the region.
-pub fn begin_region(
-    amongs: &Vec<AmongStrings>,
-    place: CommandPosition,
-    following: CommandPosition,
-) -> CommandPosition
+pub fn begin_region(amongs: &Vec<AmongStrings>, place: Standing, following: Standing) -> Standing
     ensures { view_place amongs.now.items result ≡ spec.begin_region (view_place amongs.now.items place) (view_place amongs.now.items following) }
 {
-    CommandPosition {
+    Standing {
         next: place.next,
         following: left_of(amongs, following),
         waits: false,
     }
 }
 
-fn past_simple(_amongs: &Vec<AmongStrings>, word: Simple, place: CommandPosition) -> CommandPosition
+fn past_simple(_amongs: &Vec<AmongStrings>, word: Simple, place: Standing) -> Standing
     ensures { view_place _amongs.now.items result ≡ spec.past_simple word (view_place _amongs.now.items place) }
 {
     match word {
-        Simple::Substring => CommandPosition {
+        Simple::Substring => Standing {
             waits: true,
             ..place
         },
@@ -89,7 +96,7 @@ fn past_simple(_amongs: &Vec<AmongStrings>, word: Simple, place: CommandPosition
 
 /// Returns the position after a command.
 #[cycle(passing)]
-fn past(amongs: &Vec<AmongStrings>, command: &Command, place: CommandPosition) -> CommandPosition
+fn past(amongs: &Vec<AmongStrings>, command: &Command, place: Standing) -> Standing
     ensures { view_place amongs.now.items result ≡ spec.past (view_command command.now) (view_place amongs.now.items place) }
 {
     match command {
@@ -108,27 +115,15 @@ fn past(amongs: &Vec<AmongStrings>, command: &Command, place: CommandPosition) -
 
 /// Returns the position after the rows in parentheses.
 #[cycle(passing)]
-pub fn past_rows(
-    amongs: &Vec<AmongStrings>,
-    rows: &Vec<RowOfCommands>,
-    place: CommandPosition,
-) -> CommandPosition
+pub fn past_rows(amongs: &Vec<AmongStrings>, rows: &Vec<RowOfCommands>, place: Standing) -> Standing
     ensures { view_place amongs.now.items result ≡ spec.past_rows (view_rows rows.now.items) (view_place amongs.now.items place) }
 {
-    let mut following = place;
-    for row in rows {
-        following = past_row(amongs, row, following);
-    }
-    following
+    past_each!(row in rows, place => following: past_row(amongs, row, following))
 }
 
 /// Returns the position after a row.
 #[cycle(passing)]
-pub fn past_row(
-    amongs: &Vec<AmongStrings>,
-    row: &RowOfCommands,
-    place: CommandPosition,
-) -> CommandPosition
+pub fn past_row(amongs: &Vec<AmongStrings>, row: &RowOfCommands, place: Standing) -> Standing
     ensures { view_place amongs.now.items result ≡ spec.past_others (view_row row.now).1 (spec.past (view_row row.now).0 (view_place amongs.now.items place)) }
 {
     let first = past(amongs, &row.first, place);
@@ -136,22 +131,14 @@ pub fn past_row(
 }
 
 #[cycle(passing)]
-fn past_others(
-    amongs: &Vec<AmongStrings>,
-    others: &Vec<NextCommand>,
-    place: CommandPosition,
-) -> CommandPosition
+fn past_others(amongs: &Vec<AmongStrings>, others: &Vec<NextCommand>, place: Standing) -> Standing
     ensures { view_place amongs.now.items result ≡ spec.past_others (view_others others.now.items) (view_place amongs.now.items place) }
 {
-    let mut following = place;
-    for joined in others {
-        following = past(amongs, &joined.command, following);
-    }
-    following
+    past_each!(joined in others, place => following: past(amongs, &joined.command, following))
 }
 
 #[cycle(passing)]
-fn past_among(amongs: &Vec<AmongStrings>, among: &Among, place: CommandPosition) -> CommandPosition
+fn past_among(amongs: &Vec<AmongStrings>, among: &Among, place: Standing) -> Standing
     ensures { view_place amongs.now.items result ≡ spec.past (trees.among_ (view_among among.now).0 (view_among among.now).1) (view_place amongs.now.items place) }
 {
     let mut following = inside(amongs, place);
@@ -162,16 +149,8 @@ fn past_among(amongs: &Vec<AmongStrings>, among: &Among, place: CommandPosition)
 }
 
 #[cycle(passing)]
-fn past_groups(
-    amongs: &Vec<AmongStrings>,
-    groups: &Vec<Group>,
-    place: CommandPosition,
-) -> CommandPosition
+fn past_groups(amongs: &Vec<AmongStrings>, groups: &Vec<Group>, place: Standing) -> Standing
     ensures { (bare : List trees.Entry) → view_place amongs.now.items result ≡ spec.past_groups (view_groups groups.now.items bare) (view_place amongs.now.items place) }
 {
-    let mut following = place;
-    for group in groups {
-        following = past_rows(amongs, &group.rows, end_waiting(amongs, following));
-    }
-    following
+    past_each!(group in groups, place => following: past_rows(amongs, &group.rows, end_waiting(amongs, following)))
 }

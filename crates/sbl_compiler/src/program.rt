@@ -14,17 +14,13 @@ ghost use Rattle.sbl_program.specs.ProgramOf.{program_of};
 use crate::amongs::amongs_of;
 use crate::compiler::{CompileResult, Compiler};
 use crate::names::{SymbolTable, names_of};
-use crate::place::{CommandPosition, begin_region, end_waiting, left_of, past_row};
+use crate::place::{Standing, begin_region, end_waiting, left_of, past_row};
 use sbl_ast::{ItemInMode, Plain, RowOfCommands, ScriptItem, items_in_order};
 use sbl_program::{AmongStrings, Program, Routine};
 use std::alloc::{AllocError, Global};
 
 impl Compiler<'_> {
-    fn routine_of(
-        &self,
-        body: &RowOfCommands,
-        place: &mut CommandPosition,
-    ) -> CompileResult<Routine>
+    fn routine_of(&self, body: &RowOfCommands, place: &mut Standing) -> CompileResult<Routine>
         ensures made { IfOk result (λ r. routine_in self.now r ≡ spec.routine_of (names_in self.now) (view_row body.now).0 (view_row body.now).1 (place_in self.now place.old)) }
         ensures following { OnOk result (place_in self.now place.new ≡ spec.past_body (view_row body.now).0 (view_row body.now).1 (place_in self.now place.old)) }
     {
@@ -42,7 +38,7 @@ impl Compiler<'_> {
     fn add_routine(
         &self,
         plain: &Plain,
-        place: &mut CommandPosition,
+        place: &mut Standing,
         routines: &mut Vec<Routine>,
     ) -> CompileResult<()>
         ensures made { OnOk result (routines_in self.now routines.new.items ≡ with_routine (names_in self.now) (view_plain plain.now) (place_in self.now place.old) (routines_in self.now routines.old.items)) }
@@ -58,7 +54,7 @@ impl Compiler<'_> {
     fn routines_of(&self, items: &[ItemInMode]) -> CompileResult<Vec<Routine>>
         ensures { IfOk result (λ v. routines_in self.now v.items ≡ spec.routines_after (names_in self.now) (map view_in_mode items.now) (place_in self.now at_start) []) }
     {
-        let mut place = CommandPosition {
+        let mut place = Standing {
             next: 0,
             following: 0,
             waits: false,

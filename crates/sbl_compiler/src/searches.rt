@@ -7,7 +7,7 @@ ghost use Rattle.sbl_program.specs.Program as programs;
 ghost use Rattle.sbl_program.specs.ProgramOf.{commands_of};
 
 use crate::compiler::{CompileResult, Compiler};
-use crate::place::{CommandPosition, left_of};
+use crate::place::{Standing, left_of};
 use sbl_ast::Among;
 use sbl_program::{Action, Candidate, Node};
 use std::alloc::{AllocError, Global};
@@ -46,7 +46,7 @@ fn count_before(waits: bool, among: &Among) -> usize {
 
 impl Compiler<'_> {
     /// Returns the number of the next among in its routine.
-    pub fn next_number(&self, place: CommandPosition) -> usize
+    pub fn next_number(&self, place: Standing) -> usize
         ensures { result ≡ (spec.next_of (place_in self.now place).coming).number }
     {
         match self.amongs.get(place.next) {
@@ -56,7 +56,7 @@ impl Compiler<'_> {
     }
 
     // Returns the candidates of the next among, one for each string. Returns `AllocError` if an allocation fails.
-    fn next_entries(&self, place: CommandPosition) -> CompileResult<Vec<Candidate>>
+    fn next_entries(&self, place: Standing) -> CompileResult<Vec<Candidate>>
         ensures { IfOk result (λ v. v.items ≡ (spec.next_of (place_in self.now place).coming).entries) }
     {
         match self.amongs.get(place.next) {
@@ -66,7 +66,7 @@ impl Compiler<'_> {
     }
 
     // Returns the search of the next among. Returns `AllocError` if an allocation fails.
-    fn search_next(&self, place: CommandPosition) -> CompileResult<Node>
+    fn search_next(&self, place: Standing) -> CompileResult<Node>
         ensures { IfOk result (λ n. node_in self.now n ≡ spec.search_next (place_in self.now place)) }
     {
         let entries = self.next_entries(place)?;
@@ -79,7 +79,7 @@ impl Compiler<'_> {
 
     /// Returns the search for a `substring`: f if its region has no among ahead. Returns `AllocError` if an allocation
     /// fails.
-    pub fn search_ahead(&self, place: CommandPosition) -> CompileResult<Node>
+    pub fn search_ahead(&self, place: Standing) -> CompileResult<Node>
         ensures { IfOk result (λ n. node_in self.now n ≡ spec.search_ahead (place_in self.now place)) }
     {
         if place.following < left_of(self.amongs, place) {
@@ -90,7 +90,7 @@ impl Compiler<'_> {
     }
 
     /// Returns what an among does before its starter. Returns `AllocError` if an allocation fails.
-    pub fn search_first(&self, among: &Among, place: CommandPosition) -> CompileResult<Vec<Node>>
+    pub fn search_first(&self, among: &Among, place: Standing) -> CompileResult<Vec<Node>>
         ensures { IfOk result (λ ns. map (node_in self.now) ns.items ≡ spec.search_first (place_in self.now place) []) }
     {
         let before = Vec::with_capacity(self.alloc, count_before(place.waits, among))?;
@@ -109,7 +109,7 @@ impl Compiler<'_> {
     /// Adds a starter to what an among at `place` does before it. Returns `AllocError` if an allocation fails.
     pub fn with_starter(
         &self,
-        place: CommandPosition,
+        place: Standing,
         before: Vec<Node>,
         starter: Vec<Node>,
     ) -> CompileResult<Vec<Node>>

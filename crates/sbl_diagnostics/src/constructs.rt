@@ -113,10 +113,8 @@ pub(crate) fn push_operator(
 
 /// Returns whether `<=` is at the place, and a literal after it.
 fn is_arrow_meant(site: Site<'_>) -> bool {
-    match site.next_kinds() {
-        (Some(next), _) => site.operator() == Some(Sign::AtMost) && next == Kind::Literal,
-        _ => false,
-    }
+    let (next, _) = site.next_kinds();
+    site.operator() == Some(Sign::AtMost) && next == Some(Kind::Literal)
 }
 
 /// Appends what comes in parentheses of commands.
@@ -214,10 +212,7 @@ fn holds_items(site: Site<'_>) -> bool {
 
 /// Returns whether an item begins with the token.
 pub(crate) fn is_item(kind: Option<Kind>) -> bool {
-    match kind {
-        Some(Kind::Word(word)) => begins_item(word),
-        _ => false,
-    }
+    matches!(kind, Some(Kind::Word(word)) if begins_item(word))
 }
 
 /// Appends which of `backwards` and `backwardmode` is meant if the other one, or `backward`, is at the place. Returns whether it did.

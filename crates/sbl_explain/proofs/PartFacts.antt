@@ -1,5 +1,5 @@
 -- Parts in the order of their items.
-use Rattle.std.proofs.Common.{◌≡◌, ◌∙◌, ◌++◌, ◌∷◌, ℕ, List, [], map, refl, ap}
+use Rattle.std.proofs.Common.{◌≡◌, ◌∙◌, ◌∷◌, ℕ, List, [], map, refl, ap}
 use Rattle.std.specs.Borrow.{Bor}
 use Rattle.std.specs.BTreeMap.{insert_entry}
 use Rattle.std.specs.Global.{Vec}
@@ -11,7 +11,6 @@ use Rattle.sbl_machine.specs.ItemRefs.{item_of_ref}
 use Rattle.sbl_machine.specs.contracts.item_ref.ItemRefOrd.TheImpl.{cmp-value}
 use Rattle.sbl_machine.specs.declared.item_ref.ItemRef.{ItemRef}
 use Rattle.sbl_semantics.specs.TouchedItems.{item_cmp}
-use Rattle.sbl_explain.specs.Parts.{Part, put_in_order}
 use Rattle.sbl_explain.specs.UnusedViews.{texts_of, view_part}
 
 abbrev Entry : Type 0
@@ -30,8 +29,3 @@ put_viewed (e ∷ es) k v =
     by Less rest = refl
     by Equal rest = refl
     by Greater rest = ap (λ l. view_part e ∷ l) rest
-
--- parts that are put one after another
-pub put_append : (ps xs ys : List Part) → put_in_order ps (xs ++ ys) ≡ put_in_order (put_in_order ps xs) ys
-put_append ps [] ys = refl
-put_append ps (x ∷ xs) ys = put_append (insert_entry item_cmp ps x.0 x.1) xs ys

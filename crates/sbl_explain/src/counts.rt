@@ -124,21 +124,19 @@ fn text_of_counts(
     records_text(alloc, &counts)
 }
 
-/// Returns a row for each routine, external and grouping of the script, in the order of the text, with the number of words whose
-/// run uses it; after a routine its amongs, by number, and after each among its strings. Runs that are refused count.
-///
-/// Runs only the words that an edit since the last question can concern, as far as `kept` has the others. Returns `AllocError` if an
-/// allocation fails.
-pub fn counts_text(
-    alloc: Global,
-    bench: &Bench,
-    kept: &mut KeptTakes,
-) -> Result<Vec<u8>, AllocError>
-    ensures { IfOk result (λ text. text.items ≡ spec.counts_text (setting_of bench.now) bench.now.words) }
-{
-    let usables = usables_of(alloc, bench.script())?;
-    let words = kept.words_now(alloc, bench)?;
-    let text = text_of_counts(alloc, bench, &usables, &words)?;
-    kept.keep(alloc, bench, words)?;
-    Ok(text)
+impl KeptTakes {
+    /// Returns a row for each routine, external and grouping of the script, in the order of the text, with the number of words whose
+    /// run uses it; after a routine its amongs, by number, and after each among its strings. Runs that are refused count.
+    ///
+    /// Runs only words that an edit since the last question can concern, or that are not kept. Returns `AllocError` if an allocation
+    /// fails.
+    pub fn counts_text(&mut self, alloc: Global, bench: &Bench) -> Result<Vec<u8>, AllocError>
+        ensures { IfOk result (λ text. text.items ≡ spec.counts_text (setting_of bench.now) bench.now.words) }
+    {
+        let usables = usables_of(alloc, bench.script())?;
+        let words = self.words_now(alloc, bench)?;
+        let text = text_of_counts(alloc, bench, &usables, &words)?;
+        self.keep(alloc, bench, words)?;
+        Ok(text)
+    }
 }

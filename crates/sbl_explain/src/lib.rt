@@ -22,11 +22,9 @@ mod usables;
 mod uses;
 mod why;
 
-pub use counts::counts_text;
 pub use integers::integers_text;
 pub use kept_takes::KeptTakes;
 pub use moment::Moment;
 pub use slices::first;
-pub use unused::unused_text;
-pub use uses::{Question, UsesFault, uses_text};
+pub use uses::{Question, UsesFault};
 pub use why::why_text;

@@ -203,21 +203,19 @@ fn text_of_unused(alloc: Global, bench: &Bench, words: &[KeptWord]) -> Result<Ve
     used.text_of_rows(&parts)
 }
 
-/// Returns the rows of what no word of the vocabulary uses, under the script and the limit of the bench: the routines, amongs and
-/// groupings that the run of no word touches, in their order, and then the strings of the other amongs that the run of no word
-/// takes. A grouping counts as touched if one that is built from it is. Runs that are refused count.
-///
-/// Runs only the words that an edit since the last question can concern, as far as `kept` has the others. Returns `AllocError` if an
-/// allocation fails.
-pub fn unused_text(
-    alloc: Global,
-    bench: &Bench,
-    kept: &mut KeptTakes,
-) -> Result<Vec<u8>, AllocError>
-    ensures { IfOk result (λ text. text.items ≡ spec.unused_text (setting_of bench.now) bench.now.words) }
-{
-    let words = kept.words_now(alloc, bench)?;
-    let text = text_of_unused(alloc, bench, &words)?;
-    kept.keep(alloc, bench, words)?;
-    Ok(text)
+impl KeptTakes {
+    /// Returns the rows of what no word of the vocabulary uses, under the script and the limit of the bench: the routines, amongs and
+    /// groupings that the run of no word touches, in their order, and then the strings of the other amongs that the run of no word
+    /// takes. A grouping counts as touched if one that is built from it is. Runs that are refused count.
+    ///
+    /// Runs only words that an edit since the last question can concern, or that are not kept. Returns `AllocError` if an allocation
+    /// fails.
+    pub fn unused_text(&mut self, alloc: Global, bench: &Bench) -> Result<Vec<u8>, AllocError>
+        ensures { IfOk result (λ text. text.items ≡ spec.unused_text (setting_of bench.now) bench.now.words) }
+    {
+        let words = self.words_now(alloc, bench)?;
+        let text = text_of_unused(alloc, bench, &words)?;
+        self.keep(alloc, bench, words)?;
+        Ok(text)
+    }
 }

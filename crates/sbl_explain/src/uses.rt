@@ -216,24 +216,26 @@ fn rows_of_users<'b>(
     }
 }
 
-/// Returns the rows of the words whose runs use a part of the script, in vocabulary order: enter the routine or external, search the
-/// among, test the grouping or one that is built from it, or take the string of the among. Runs that are refused count.
-///
-/// For a string, runs only the words that an edit since the last question can concern, as far as `kept` has the others.
-///
-/// # Errors
-///
-/// Returns `NoRoutine` if the script has no definition of the name that can be used so, `NoAmong` if its routine has no among of
-/// this number, `NoString` if the among has no such string, and `OutOfMemory` if an allocation fails.
-pub fn uses_text(
-    alloc: Global,
-    bench: &Bench,
-    kept: &mut KeptTakes,
-    question: Question<'_>,
-) -> Result<Vec<u8>, UsesFault>
-    ensures { IsResult (λ text. text.items) result (spec.uses_text (setting_of bench.now) bench.now.words (question_of question.entry)) }
-{
-    let usable = usable_for(alloc, bench.script(), question)?;
-    let rows = rows_of_users(alloc, bench, kept, &usable)?;
-    Ok(records_text(alloc, &rows)?)
+impl KeptTakes {
+    /// Returns the rows of the words whose runs use a part of the script, in vocabulary order: enter the routine or external, search the
+    /// among, test the grouping or one that is built from it, or take the string of the among. Runs that are refused count.
+    ///
+    /// For a string, runs only words that an edit since the last question can concern, or that are not kept.
+    ///
+    /// # Errors
+    ///
+    /// Returns `NoRoutine` if the script has no definition of the name that can be used so, `NoAmong` if its routine has no among of
+    /// this number, `NoString` if the among has no such string, and `OutOfMemory` if an allocation fails.
+    pub fn uses_text(
+        &mut self,
+        alloc: Global,
+        bench: &Bench,
+        question: Question<'_>,
+    ) -> Result<Vec<u8>, UsesFault>
+        ensures { IsResult (λ text. text.items) result (spec.uses_text (setting_of bench.now) bench.now.words (question_of question.entry)) }
+    {
+        let usable = usable_for(alloc, bench.script(), question)?;
+        let rows = rows_of_users(alloc, bench, self, &usable)?;
+        Ok(records_text(alloc, &rows)?)
+    }
 }

@@ -9,6 +9,17 @@ ghost use Rattle.sbl_script.specs.Parts.{view_part};
 use sbl_bench::{Bench, BreakOff, EditFault, NeverBreak};
 use sbl_script::Part;
 
+// Makes an edit. What may break it off is asked only if `may_break` is true.
+macro_rules! edit {
+    ($bench:ident.$edit:ident($($given:ident),*), $may_break:ident, $break_off:ident) => {
+        if $may_break {
+            $bench.$edit($($given,)* $break_off)
+        } else {
+            $bench.$edit($($given,)* &mut NeverBreak {})
+        }
+    };
+}
+
 /// Replaces the whole script. `break_off` is asked only if `may_break` is true.
 pub(crate) fn replace_script<B: BreakOff>(
     bench: &mut Bench,
@@ -20,11 +31,7 @@ pub(crate) fn replace_script<B: BreakOff>(
     ensures untold { OnOk result (B.said break_off.new ≡ B.said break_off.old) }
     ensures told { IfErr result (λ f. BreaksIfTold (B.said break_off.old) (B.said break_off.new) f) }
 {
-    if may_break {
-        bench.replace_script_or_break(text, break_off)
-    } else {
-        bench.replace_script_or_break(text, &mut NeverBreak {})
-    }
+    edit!(bench.replace_script_or_break(text), may_break, break_off)
 }
 
 /// Replaces a part of the script. `break_off` is asked only if `may_break` is true.
@@ -39,11 +46,7 @@ pub(crate) fn replace_part<B: BreakOff>(
     ensures untold { OnOk result (B.said break_off.new ≡ B.said break_off.old) }
     ensures told { IfErr result (λ f. BreaksIfTold (B.said break_off.old) (B.said break_off.new) f) }
 {
-    if may_break {
-        bench.replace_or_break(part, text, break_off)
-    } else {
-        bench.replace_or_break(part, text, &mut NeverBreak {})
-    }
+    edit!(bench.replace_or_break(part, text), may_break, break_off)
 }
 
 /// Sets the limit. `break_off` is asked only if `may_break` is true.
@@ -57,9 +60,5 @@ pub(crate) fn set_limit<B: BreakOff>(
     ensures untold { OnOk result (B.said break_off.new ≡ B.said break_off.old) }
     ensures told { IfErr result (λ f. BreaksIfTold (B.said break_off.old) (B.said break_off.new) f) }
 {
-    if may_break {
-        bench.set_limit_or_break(number, break_off)
-    } else {
-        bench.set_limit_or_break(number, &mut NeverBreak {})
-    }
+    edit!(bench.set_limit_or_break(number), may_break, break_off)
 }

@@ -124,18 +124,35 @@ const CLASS_KINDS: Kinds = Kinds {
     third: ChangeKind::Renamed,
 };
 
-/// Appends the rows with the numbers of changes of these kinds. Returns `AllocError` if an allocation fails.
-fn push_counts(
-    alloc: Global,
-    out: &mut Vec<u8>,
-    kinds: Kinds,
-    found: &[ChangeRow<'_>],
-) -> Result<(), AllocError>
-    ensures { OnOk result (out.new.items ≡ out.old.items ++ records.records_text (spec.three_figures (view_changes found.now) kinds.first kinds.second kinds.third)) }
-{
-    push_count(alloc, out, kinds.first, found)?;
-    push_count(alloc, out, kinds.second, found)?;
-    push_count(alloc, out, kinds.third, found)
+impl Kinds {
+    /// Appends the rows with the numbers of changes of these kinds. Returns `AllocError` if an allocation fails.
+    fn push_counts(
+        self,
+        alloc: Global,
+        out: &mut Vec<u8>,
+        found: &[ChangeRow<'_>],
+    ) -> Result<(), AllocError>
+        ensures { OnOk result (out.new.items ≡ out.old.items ++ records.records_text (spec.three_figures (view_changes found.now) self.first self.second self.third)) }
+    {
+        push_count(alloc, out, self.first, found)?;
+        push_count(alloc, out, self.second, found)?;
+        push_count(alloc, out, self.third, found)
+    }
+
+    /// Appends the rows of the first `number` changes of each of these kinds. Returns `AllocError` if an allocation fails.
+    fn push_first_of_each(
+        self,
+        alloc: Global,
+        out: &mut Vec<u8>,
+        number: usize,
+        found: &[ChangeRow<'_>],
+    ) -> Result<(), AllocError>
+        ensures { OnOk result (out.new.items ≡ out.old.items ++ records.records_text (map change_fields (spec.first_of_three number (view_changes found.now) self.first self.second self.third))) }
+    {
+        push_first(alloc, out, number, self.first, found)?;
+        push_first(alloc, out, number, self.second, found)?;
+        push_first(alloc, out, number, self.third, found)
+    }
 }
 
 /// Returns the report of how many changes of each kind there are between some rows and those of the bench.
@@ -153,8 +170,8 @@ pub fn change_figures_text(
     let rows = bench.rows()?;
     let found = changes_of_few(alloc, before, &rows)?;
     let mut out = Vec::new(alloc);
-    push_counts(alloc, &mut out, WORD_KINDS, &found)?;
-    push_counts(alloc, &mut out, CLASS_KINDS, &found)?;
+    WORD_KINDS.push_counts(alloc, &mut out, &found)?;
+    CLASS_KINDS.push_counts(alloc, &mut out, &found)?;
     Ok(out)
 }
 
@@ -188,21 +205,6 @@ fn push_first(
     Ok(())
 }
 
-/// Appends the rows of the first `number` changes of each of these kinds. Returns `AllocError` if an allocation fails.
-fn push_first_of(
-    alloc: Global,
-    out: &mut Vec<u8>,
-    number: usize,
-    kinds: Kinds,
-    found: &[ChangeRow<'_>],
-) -> Result<(), AllocError>
-    ensures { OnOk result (out.new.items ≡ out.old.items ++ records.records_text (map change_fields (spec.first_of_three number (view_changes found.now) kinds.first kinds.second kinds.third))) }
-{
-    push_first(alloc, out, number, kinds.first, found)?;
-    push_first(alloc, out, number, kinds.second, found)?;
-    push_first(alloc, out, number, kinds.third, found)
-}
-
 /// Returns the report of what changed between some rows and those of the bench, with at most `number` rows of each kind.
 ///
 /// # Errors
@@ -219,7 +221,7 @@ pub fn first_changes_text(
     let rows = bench.rows()?;
     let found = changes_of_few(alloc, before, &rows)?;
     let mut out = Vec::new(alloc);
-    push_first_of(alloc, &mut out, number, WORD_KINDS, &found)?;
-    push_first_of(alloc, &mut out, number, CLASS_KINDS, &found)?;
+    WORD_KINDS.push_first_of_each(alloc, &mut out, number, &found)?;
+    CLASS_KINDS.push_first_of_each(alloc, &mut out, number, &found)?;
     Ok(out)
 }

@@ -23,6 +23,9 @@ use sbl_script::Script;
 use std::alloc::{AllocError, Global};
 use std::mem::forget;
 
+/// The room that is made for a row, in bytes. Most rows have fewer; others make the text grow.
+const ROW_BYTES: usize = 64;
+
 /// The words of a vocabulary so far, and their rows.
 struct VocabularyRows {
     alloc: Global,
@@ -32,17 +35,25 @@ struct VocabularyRows {
 }
 
 impl VocabularyRows {
-    /// Returns no words. They are found by a hash with these keys. Does not allocate.
-    fn new(alloc: Global, keys: WordKeys) -> VocabularyRows
-        ensures words { texts_of result.words.keys ≡ [] }
-        ensures rows { HasWritten result.records.writer [] }
+    /// Returns no words, with room for this many and their rows. They are found by a hash with these keys. Returns `AllocError` if an
+    /// allocation fails.
+    fn with_capacity(
+        alloc: Global,
+        keys: WordKeys,
+        count: usize,
+    ) -> Result<VocabularyRows, AllocError>
+        ensures words { IfOk result (λ rows. texts_of rows.words.keys ≡ []) }
+        ensures rows { IfOk result (λ rows. HasWritten rows.records.writer []) }
     {
-        VocabularyRows {
+        let count = count.min(MAX_WORDS);
+        let mut words = IndexSet::with_hasher(alloc, keys);
+        words.reserve(count)?;
+        Ok(VocabularyRows {
             alloc,
             meter: Meter::new(),
-            words: IndexSet::with_hasher(alloc, keys),
-            records: RecordWriter::new(alloc),
-        }
+            words,
+            records: RecordWriter::with_capacity(alloc, count * ROW_BYTES)?,
+        })
     }
 
     /// Appends a word, runs the script on it and writes its row; skips it if it is empty or a repeat. Returns `WordTooLong`, `Full`
@@ -83,7 +94,6 @@ impl VocabularyRows {
         requires { texts_of self.old.words.keys ≡ [] }
         ensures { (s : Source) → IsLinkedMachineOf machine.now s → HasWritten self.old.records.writer [] → RowsOpen s (texts_of words.items) (λ text u. HasWritten self.new.records.writer text) result }
     {
-        self.words.reserve(words.len().min(MAX_WORDS))?;
         for word in words {
             self.push(machine, word)?;
         }
@@ -153,7 +163,7 @@ pub(crate) fn vocabulary_rows(
     ensures { RowsOpen (source_of script.now) (texts_of words.items) (λ text bytes. bytes.items ≡ text) result }
 {
     let machine = Machine::new(alloc, script)?;
-    let mut rows = VocabularyRows::new(alloc, keys);
+    let mut rows = VocabularyRows::with_capacity(alloc, keys, words.len())?;
     let result = rows.push_all(&machine, words);
     machine.discard();
     if let Err(fault) = result {

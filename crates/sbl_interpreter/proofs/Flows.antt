@@ -4,8 +4,10 @@ use Rattle.std.specs.Prelude.{IfOk}
 use Rattle.std.proofs.lemmas.Result.{IfOk-weaker}
 use Rattle.std.specs.declared.rc.Rc.{Rc}
 use Rattle.sbl_program.specs.AmongStrings.{Listing}
-use Rattle.sbl_program.specs.Actions.{test_grouping}
+use Rattle.sbl_program.specs.Actions.{acts, test_grouping}
 use Rattle.sbl_program.specs.Program as programs
+use Rattle.sbl_program.specs.ProgramOf.{view_action}
+use Rattle.sbl_program.specs.declared.action.Action.{Action}
 use Rattle.sbl_program.specs.Terms.{class_at}
 use Rattle.sbl_run_state.specs.declared.halt.Halt.{Halt}
 use Rattle.sbl_run_state.specs.Endings.{Follows}
@@ -20,11 +22,11 @@ use Rattle.sbl_ast.specs.declared.mode.Mode.{Mode}
 use Rattle.sbl_ast.specs.declared.mode.Mode.TheVariants.{Forward, Backward}
 use Rattle.sbl_code.specs.declared.instruction.GroupCode.{GroupCode, out-GroupCode}
 use Rattle.sbl_code.specs.declared.instruction.Instruction.{Instruction}
-use Rattle.sbl_code.specs.declared.instruction.Instruction.TheVariants.{Character, Grouping, LeftBracket, Repeat, Choose}
+use Rattle.sbl_code.specs.declared.instruction.Instruction.TheVariants.{Act, Character, Grouping, LeftBracket, Repeat, Choose}
 use Rattle.sbl_code.specs.declared.instruction.Instruction.TheFolds.{fold_out-GroupCode}
 use Rattle.sbl_code.specs.declared.instruction.Instruction.TheViews.{the_lemmas}
 use Rattle.sbl_code.specs.Flow.{Flow, flow, back_if, group_flow, alone, chosen_flow, turns_of}
-use Rattle.sbl_code.proofs.Instructions.{flow_character, flow_grouping, flow_left_bracket, flow_repeat, flow_choose}
+use Rattle.sbl_code.proofs.Instructions.{flow_act, flow_character, flow_grouping, flow_left_bracket, flow_repeat, flow_choose}
 use Rattle.sbl_code.proofs.PerformingAt.{match_stays, grouping_stays, back_stays}
 
 abbrev I : Type 0
@@ -117,6 +119,12 @@ module _ (p : programs.Program) (levels : ℕ) (tables : ℕ → Listing) (m : M
       ∙ flow_grouping p levels tables m slots s cost wanted g back next fail
       ∙ ap (λ r. then_on r (λ v. after (test_grouping wanted (class_at p.groupings g) g m v) (F next.value m slots) (back_if back m v (F fail.value m slots)))) h)
       halts
+
+  -- an action whose steps are paid
+  pub act_paid : (cost : ℕ) (action : Box Action Global) (next fail : I) (u : State) → at ≡ Act cost action next fail → pays cost s ≡ Signals true u → F at m slots s ≡ after (acts p.groupings (view_action action.value) m u) (F next.value m slots) (F fail.value m slots)
+  act_paid cost action next fail u is h =
+      ap (λ (i : Instruction). F i m slots s) is ∙ flow_act p levels tables m slots s cost action next fail
+      ∙ ap (λ r. then_on r (λ v. after (acts p.groupings (view_action action.value) m v) (F next.value m slots) (F fail.value m slots))) h
 
   pub left_bracketed : (cost : ℕ) (next : I) (u new : State) → at ≡ LeftBracket cost next → pays cost s ≡ Signals true u → new ≡ left_bracket m u → F at m slots s ≡ F next.value m slots new
   left_bracketed cost next u new is h e =

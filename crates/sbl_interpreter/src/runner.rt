@@ -446,7 +446,7 @@ impl<'a, T: Tables> Runner<'a, T> {
                     levels: self.levels - 1,
                     ..*self
                 };
-                let signal = deeper.run_from(&routine.first, state)?;
+                let signal = deeper.run_body(&routine.first, state)?;
                 state.leave(caller, kept, signal)?;
                 Ok(signal)
             }

@@ -44,10 +44,10 @@ impl From<LineFault> for ServeFault {
     ghost from_gives = { λ fault e. e ≡ serve_fault_of fault };
 
     fn from(fault: LineFault) -> ServeFault {
-        match fault {
-            LineFault::Read => ServeFault::Read,
-            LineFault::TooLong => ServeFault::LineTooLong,
+        if matches!(fault, LineFault::TooLong) {
+            return ServeFault::LineTooLong;
         }
+        ServeFault::Read
     }
 }
 

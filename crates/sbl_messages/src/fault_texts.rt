@@ -109,7 +109,7 @@ pub(crate) fn files_fault_text(
             let is_of_words = fault == FilesFault::Run(ServeFault::NotText)
                 && offset_of_byte(&words.bytes).is_some();
             let file = if is_of_words { words } else { rest };
-            let placed = place_in(&file.bytes, fault.cause());
+            let placed = place_in(&file.bytes, LoadFault::from(fault));
             placed_text(alloc, file.name, placed, &file.bytes, LineRole::Other)
         }
     }

@@ -7,7 +7,7 @@ ghost use Rattle.snowbench.specs.ScriptFiles.{cause_of};
 use crate::failures::{FAILED, Failure, REFUSED};
 use crate::fault_texts::files_fault_text;
 use sbl_diagnostics::STANDARD_INPUT;
-use snowbench::{FilesFault, FilesInput, Wanted};
+use snowbench::{FilesFault, FilesInput, LoadFault, Wanted};
 use std::alloc::Global;
 use std::io;
 use std::io::ErrorKind;
@@ -127,5 +127,5 @@ pub fn files_failure(
     ensures { is_closed ≡ false → (said : Option (String Global)) × (result ≡ Failure.Fault (cause_of fault) said) }
 {
     let text = files_fault_text(alloc, wanted.external.as_str(), files, fault);
-    Failure::of_fault(fault.cause(), is_closed, text)
+    Failure::of_fault(LoadFault::from(fault), is_closed, text)
 }

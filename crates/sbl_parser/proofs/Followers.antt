@@ -1,11 +1,13 @@
 -- Steps over tokens from one stack to an end, and what may follow an expression or a row.
-use Rattle.std.proofs.Common.{◌≡◌, ℕ, Bool, true, false, List, [], ◌∷◌, refl, ap, ◌∙◌}
-use Rattle.std.specs.Prelude.{if◌then◌else◌, ◌&&◌}
+use Rattle.std.proofs.Common.{◌≡◌, ℕ, Bool, true, List, [], ◌∷◌, refl, ap, ◌∙◌}
+use Rattle.std.specs.Prelude.{if◌then◌else◌, ◌&&◌, not}
 use Rattle.sbl_ast.specs.Terminal.{Terminal}
 use Rattle.sbl_ast.specs.Terminal as t
 use Rattle.sbl_ast.specs.TerminalPlaces.{AtDepth}
+use Rattle.sbl_parser.specs.Roles.{role_as}
 use Rattle.sbl_parser.specs.Steps.{Symbol, Stack, Step, goes, stuck, unassigned, is_optional, is_done, following, after_sums, after_scales, after_others, after_terms, after_plain, after_item, or_else, step}
 use Rattle.sbl_parser.specs.Steps as s
+use Rattle.sbl_parser.proofs.TokenStarts.{is_adds, is_joins, is_multiplies}
 
 -- over tokens at their depths, from one stack to an end
 abbrev pub Runs : List AtDepth → Stack → (Stack → Type 0) → Type 0
@@ -21,16 +23,13 @@ Passes ps k = Runs ps k IsDone
 -- ---- what may follow an expression or a row
 
 abbrev pub no_plus : Terminal → Bool
-no_plus (t.additive o) = false
-no_plus _ = true
+no_plus x = not (is_adds (role_as x))
 
 abbrev pub no_times : Terminal → Bool
-no_times (t.multiplicative o) = false
-no_times _ = true
+no_times x = not (is_multiplies (role_as x))
 
 abbrev pub no_or : Terminal → Bool
-no_or (t.joiner j) = false
-no_or _ = true
+no_or x = not (is_joins (role_as x))
 
 abbrev pub first_is : (Terminal → Bool) → List AtDepth → Bool
 first_is f [] = true

@@ -83,6 +83,11 @@ unfolding prepend
 spelled_prepend x (bare es) rest = refl
 spelled_prepend x (group e es rs gs) rest = refl
 
+-- what the rest of one stack makes, that of another one makes
+made_of : (k n : Stack) (x : Terminal) (b : Step) → ((ts : Ts) → Makes k (x ∷ ts) → Makes n (x ∷ ts)) → Assembles k x b → Assembles n x b
+made_of k n x (goes d next) f h = λ ts m. f ts (h ts m)
+made_of k n x _ f h = tt
+
 -- ---- one lemma for each symbol
 
 opening_made : (d : ℕ) (x : Terminal) (k : Stack) → Assembles (s.opening d ∷ k) x (after_opening d x k)
@@ -194,12 +199,10 @@ others_made d (t.joiner j) k = λ ts m. (joined j m.0 m.3.0, m.3.1, cons (t.join
 others_made d _ k = tt
 
 rows_made : (d : ℕ) (x : Terminal) (k : Stack) → Assembles (s.rows d ∷ k) x (following (s.rows d) x k)
-rows_made d x k = go (after_command d x (s.others d ∷ s.rows d ∷ k)) (command_made d x (s.others d ∷ s.rows d ∷ k)) where
-  go : (b : Step) → Assembles (s.command d ∷ s.others d ∷ s.rows d ∷ k) x b → Assembles (s.rows d ∷ k) x b
-  go (goes e next) h = λ ts m. let c = h ts m in
-      (row c.0 c.3.0 c.3.3.0, c.3.3.1, c.2 ∙ ap (λ (r : Ts). spelled_command c.0 r) (c.3.2 ∙ ap (λ (r : Ts). spelled_others c.3.0 r) c.3.3.2), c.3.3.3)
-  go stuck h = tt
-  go unassigned h = tt
+rows_made d x k =
+    made_of (s.command d ∷ s.others d ∷ s.rows d ∷ k) (s.rows d ∷ k) x (after_command d x (s.others d ∷ s.rows d ∷ k))
+    (λ ts c. (row c.0 c.3.0 c.3.3.0, c.3.3.1, c.2 ∙ ap (λ (r : Ts). spelled_command c.0 r) (c.3.2 ∙ ap (λ (r : Ts). spelled_others c.3.0 r) c.3.3.2), c.3.3.3))
+    (command_made d x (s.others d ∷ s.rows d ∷ k))
 
 starter_made : (d : ℕ) (x : Terminal) (k : Stack) → Assembles (s.starter d ∷ k) x (after_starter d x k)
 starter_made d t.open_ k = λ ts m. (starter m.0, m.3.0, cons t.open_ (m.2 ∙ ap (λ (r : Ts). spelled_rows m.0 r) m.3.1), m.3.2)
@@ -273,11 +276,9 @@ plain_made t.define k = λ ts m. (m.3.0 m.0, m.3.1, cons t.define m.2 ∙ m.3.2 
 plain_made _ k = tt
 
 plains_made : (x : Terminal) (k : Stack) → Assembles (s.plains ∷ k) x (after_plain x (s.plains ∷ k))
-plains_made x k = go (after_plain x (s.plains ∷ k)) (plain_made x (s.plains ∷ k)) where
-  go : (b : Step) → Assembles (s.plain ∷ s.plains ∷ k) x b → Assembles (s.plains ∷ k) x b
-  go (goes e next) h = λ ts m. let c = h ts m in (c.0 ∷ c.3.0, c.3.1, c.2 ∙ ap (λ (r : Ts). spelled_plain c.0 r) c.3.2, c.3.3)
-  go stuck h = tt
-  go unassigned h = tt
+plains_made x k =
+    made_of (s.plain ∷ s.plains ∷ k) (s.plains ∷ k) x (after_plain x (s.plains ∷ k))
+    (λ ts c. (c.0 ∷ c.3.0, c.3.1, c.2 ∙ ap (λ (r : Ts). spelled_plain c.0 r) c.3.2, c.3.3)) (plain_made x (s.plains ∷ k))
 
 item_made : (x : Terminal) (k : Stack) → Assembles (s.item ∷ k) x (after_item x k)
 item_made (t.declares x) k = λ ts m. let c = plain_made (t.declares x) k ts m in (plain c.0, c.1, c.2, c.3)
@@ -288,11 +289,9 @@ item_made t.backward_mode k = λ ts m. (backward m.2.0, m.2.3.0, cons t.backward
 item_made _ k = tt
 
 items_made : (x : Terminal) (k : Stack) → Assembles (s.items ∷ k) x (after_item x (s.items ∷ k))
-items_made x k = go (after_item x (s.items ∷ k)) (item_made x (s.items ∷ k)) where
-  go : (b : Step) → Assembles (s.item ∷ s.items ∷ k) x b → Assembles (s.items ∷ k) x b
-  go (goes e next) h = λ ts m. let c = h ts m in (c.0 ∷ c.3.0, c.3.1, c.2 ∙ ap (λ (r : Ts). spelled_item c.0 r) c.3.2, c.3.3)
-  go stuck h = tt
-  go unassigned h = tt
+items_made x k =
+    made_of (s.item ∷ s.items ∷ k) (s.items ∷ k) x (after_item x (s.items ∷ k))
+    (λ ts c. (c.0 ∷ c.3.0, c.3.1, c.2 ∙ ap (λ (r : Ts). spelled_item c.0 r) c.3.2, c.3.3)) (item_made x (s.items ∷ k))
 
 after_made : (y : Symbol) (x : Terminal) (k : Stack) → Assembles (y ∷ k) x (following y x k)
 after_made (s.opening d) x k = opening_made d x k

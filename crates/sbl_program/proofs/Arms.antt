@@ -169,12 +169,6 @@ view_test T inner = first_of (search (rules, the_lemmas), search (rules, the_lem
 pub test_does : (T : ℕ → Listing) (p : programs.Program) (levels : ℕ) (inner : Box Node Global) (m : Mode) (s : State) → runs_paid p levels (view_node T (Test inner)) m s ≡ after (runs p levels (view_node T inner.value) m s) (put_back m (saved_cursor s)) (Signals false)
 test_does T p levels inner m s = ap (λ c. runs_paid p levels c m s) (view_test T inner)
 
-view_try : (T : ℕ → Listing) (inner : Box Node Global) → view_node T (Try inner) ≡ programs.try (view_node T inner.value)
-view_try T inner = first_of (search (rules, the_lemmas), search (rules, the_lemmas, fold_out-Node))
-
-pub try_does : (T : ℕ → Listing) (p : programs.Program) (levels : ℕ) (inner : Box Node Global) (m : Mode) (s : State) → runs_paid p levels (view_node T (Try inner)) m s ≡ after (runs p levels (view_node T inner.value) m s) (Signals true) (put_back m (saved_cursor s))
-try_does T p levels inner m s = ap (λ c. runs_paid p levels c m s) (view_try T inner)
-
 view_do : (T : ℕ → Listing) (inner : Box Node Global) → view_node T (Do inner) ≡ programs.do_ (view_node T inner.value)
 view_do T inner = first_of (search (rules, the_lemmas), search (rules, the_lemmas, fold_out-Node))
 
@@ -192,3 +186,9 @@ view_backwards T inner = first_of (search (rules, the_lemmas), search (rules, th
 
 pub backwards_does : (T : ℕ → Listing) (p : programs.Program) (levels : ℕ) (inner : Box Node Global) (m : Mode) (s : State) → runs_paid p levels (view_node T (Backwards inner)) m s ≡ then_on (backwards_from s) (λ b. after (runs p levels (view_node T inner.value) Backward b) backwards_end (Signals false))
 backwards_does T p levels inner m s = ap (λ c. runs_paid p levels c m s) (view_backwards T inner)
+
+view_try : (T : ℕ → Listing) (inner : Box Node Global) → view_node T (Try inner) ≡ programs.try (view_node T inner.value)
+view_try T inner = first_of (search (rules, the_lemmas), search (rules, the_lemmas, fold_out-Node))
+
+pub try_does : (T : ℕ → Listing) (p : programs.Program) (levels : ℕ) (inner : Box Node Global) (m : Mode) (s : State) → runs_paid p levels (view_node T (Try inner)) m s ≡ after (runs p levels (view_node T inner.value) m s) (Signals true) (put_back m (saved_cursor s))
+try_does T p levels inner m s = ap (λ c. runs_paid p levels c m s) (view_try T inner)

@@ -39,21 +39,21 @@ sum_same : (o : Additive) (a b : programs.Arithmetic) (m : Mode) (s : State) →
 sum_same additives.Plus a b m s = refl
 sum_same additives.Minus a b m s = refl
 
-pub sums_done : (os : List AddedView) (a : programs.Arithmetic) (m : Mode) (s : State) → value (all_sums os a) m s ≡ sums_to os (value a m s) m s
-sums_done [] a m s = refl
-sums_done (o ∷ os) a m s = sums_done os (sum_or_difference o.0 a o.1) m s ∙ ap (λ v. sums_to os v m s) (sum_same o.0 a o.1 m s)
-
-pub sums_stop : (os : List AddedView) (fault : RunFault) (m : Mode) (s : State) → sums_to os (Err fault) m s ≡ Err fault
-sums_stop [] fault m s = refl
-sums_stop (o ∷ os) fault m s = sums_stop os fault m s
-
 product_same : (o : Multiplicative) (a b : programs.Arithmetic) (m : Mode) (s : State) → value (product_or_quotient o a b) m s ≡ with_both (value a m s) (value b m s) (product_of o)
 product_same multiplicatives.Times a b m s = refl
 product_same multiplicatives.Over a b m s = refl
 
+pub sums_done : (os : List AddedView) (a : programs.Arithmetic) (m : Mode) (s : State) → value (all_sums os a) m s ≡ sums_to os (value a m s) m s
+sums_done [] a m s = refl
+sums_done (o ∷ os) a m s = sums_done os (sum_or_difference o.0 a o.1) m s ∙ ap (λ v. sums_to os v m s) (sum_same o.0 a o.1 m s)
+
 pub scales_done : (os : List ScaledView) (a : programs.Arithmetic) (m : Mode) (s : State) → value (all_products os a) m s ≡ scales_to os (value a m s) m s
 scales_done [] a m s = refl
 scales_done (o ∷ os) a m s = scales_done os (product_or_quotient o.0 a o.1) m s ∙ ap (λ v. scales_to os v m s) (product_same o.0 a o.1 m s)
+
+pub sums_stop : (os : List AddedView) (fault : RunFault) (m : Mode) (s : State) → sums_to os (Err fault) m s ≡ Err fault
+sums_stop [] fault m s = refl
+sums_stop (o ∷ os) fault m s = sums_stop os fault m s
 
 pub scales_stop : (os : List ScaledView) (fault : RunFault) (m : Mode) (s : State) → scales_to os (Err fault) m s ≡ Err fault
 scales_stop [] fault m s = refl

@@ -12,3 +12,4 @@ pub mod Keys
 pub mod Sorted
 pub mod Chain
 pub mod Beginnings
+pub mod Shorter

@@ -24,10 +24,23 @@ impl RecordWriter {
     pub fn new(alloc: Global) -> RecordWriter
         ensures { HasWritten result.writer [] }
     {
+        RecordWriter::over(alloc, Vec::new(alloc))
+    }
+
+    /// Returns a writer that has written nothing, with room for this many bytes of text. Returns `AllocError` if an allocation fails.
+    pub fn with_capacity(alloc: Global, bytes: usize) -> Result<RecordWriter, AllocError>
+        ensures { IfOk result (λ writer. HasWritten writer.writer []) }
+    {
+        Ok(RecordWriter::over(alloc, Vec::with_capacity(alloc, bytes)?))
+    }
+
+    // Returns a writer that has written nothing, and writes to this text, which is empty.
+    fn over(alloc: Global, text: Vec<u8>) -> RecordWriter
+        requires { text.items ≡ [] }
+        ensures { HasWritten result.writer [] }
+    {
         RecordWriter {
-            writer: WriterBuilder::new()
-                .flexible(true)
-                .from_writer(Vec::new(alloc)),
+            writer: WriterBuilder::new().flexible(true).from_writer(text),
             word: TextBuffer::new(alloc),
             stem: TextBuffer::new(alloc),
         }

@@ -2,9 +2,14 @@
 use Rattle.std.specs.Prelude.{ℕ, suc, ◌-◌, Bool, true, false, nat_le, nat_lt, if◌then◌else◌, List, Some}
 use Rattle.std.specs.List.{position_or_len}
 use Rattle.sbl_ast.specs.declared.mode.Mode.{Mode}
+use Rattle.sbl_ast.specs.declared.mode.Mode.TheVariants.{Forward, Backward}
 use Rattle.sbl_semantics.specs.declared.fault.RunFault.TheVariants.{Steps}
 use Rattle.sbl_semantics.specs.State.{State, Ending, Signals, Stops, move_cursor}
 use Rattle.sbl_semantics.specs.inside.MoveParts.{next_is}
+
+-- Forward if true, else Backward
+abbrev pub mode_if : Bool → Mode
+mode_if forward = if forward then Forward else Backward
 
 -- the number of characters before the first that is met; all of them if none is
 abbrev pub count_before : Bool → (ℕ → Bool) → List ℕ → ℕ

@@ -54,14 +54,22 @@ impl From<RunFault> for Halt {
     ghost from_gives = { λ fault r. r ≡ halt_of fault };
 
     fn from(fault: RunFault) -> Halt {
-        match fault {
-            RunFault::Steps => Halt::Steps,
-            RunFault::Depth => Halt::Depth,
-            RunFault::Slice => Halt::Slice,
-            RunFault::Cursor => Halt::Cursor,
-            RunFault::Integer => Halt::Integer,
-            RunFault::Divide => Halt::Divide,
-            RunFault::TooLong => Halt::TooLong,
-        }
+        halt_of(fault)
+    }
+}
+
+/// Returns why a run with this fault ended.
+#[inline(always)]
+fn halt_of(fault: RunFault) -> Halt
+    ensures { result ≡ halt_of fault }
+{
+    match fault {
+        RunFault::Steps => Halt::Steps,
+        RunFault::Depth => Halt::Depth,
+        RunFault::Slice => Halt::Slice,
+        RunFault::Cursor => Halt::Cursor,
+        RunFault::Integer => Halt::Integer,
+        RunFault::Divide => Halt::Divide,
+        RunFault::TooLong => Halt::TooLong,
     }
 }

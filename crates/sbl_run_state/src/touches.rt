@@ -10,6 +10,20 @@ use sbl_semantics::Touch;
 use std::alloc::{AllocError, Global};
 use std::marker::Model;
 
+/// Adds a touch whose mark is not of this round, and makes the mark. Returns `AllocError` if an allocation fails or the number is
+/// above `u32::MAX`.
+macro_rules! add_touch {
+    ($self:ident, $marks:ident, $number:ident, $touch:expr) => {{
+        if !is_touch_number($number) {
+            return Err(AllocError);
+        }
+        ensure_mark(&mut $self.$marks, $number)?;
+        $self.touches.push($touch)?;
+        set(&mut $self.$marks, $number, $self.round);
+        Ok(())
+    }};
+}
+
 /// Touches in the order of first touch, each once.
 #[derive(Drop)]
 pub struct TouchLog {
@@ -93,13 +107,7 @@ impl TouchLog {
         if is_marked(&self.entered, routine, self.round) {
             return Ok(());
         }
-        if !is_touch_number(routine) {
-            return Err(AllocError);
-        }
-        ensure_mark(&mut self.entered, routine)?;
-        self.touches.push(Touch::Entered(routine as u32))?;
-        set(&mut self.entered, routine, self.round);
-        Ok(())
+        add_touch!(self, entered, routine, Touch::Entered(routine as u32))
     }
 
     /// Records that the search of an among is paid. Returns `AllocError` if an allocation fails or a number is above
@@ -139,13 +147,7 @@ impl TouchLog {
         requires { list_any (same_touch (Tested grouping)) self.old ≡ false }
         ensures { MatchResult result (λ _. self.new ≡ self.old ++ (Tested grouping ∷ [])) (λ _. self.new ≡ self.old) }
     {
-        if !is_touch_number(grouping) {
-            return Err(AllocError);
-        }
-        ensure_mark(&mut self.tested, grouping)?;
-        self.touches.push(Touch::Tested(grouping as u32))?;
-        set(&mut self.tested, grouping, self.round);
-        Ok(())
+        add_touch!(self, tested, grouping, Touch::Tested(grouping as u32))
     }
 }
 

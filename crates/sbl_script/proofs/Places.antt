@@ -1,16 +1,17 @@
 -- Where the faults of the grammar stand.
-use Rattle.std.proofs.Common.{◌≡◌, ◌⊎◌, ℕ, List, [], ◌∷◌, ◌++◌, None, length, map, take, drop, refl, sym, ap, subst, ◌∙◌, inl, inr, Result, Ok, Err, IfErr, IfOk}
+use Rattle.std.proofs.Common.{◌≡◌, ◌⊎◌, ◌≤◌, ℕ, List, [], ◌∷◌, ◌++◌, None, length, map, take, drop, refl, sym, ap, subst, ◌∙◌, inl, inr, Result, Ok, Err, IfErr, IfOk}
 use Rattle.std.proofs.lemmas.List.{take-append-drop, map-append}
+use Rattle.std.specs.Str.{IsUtf8, chars}
 use Rattle.sbl_text.specs.declared.fault.ScriptFault.{ScriptFault}
 use Rattle.sbl_text.specs.declared.fault.ScriptFault.TheVariants as fault
 use Rattle.sbl_token.specs.declared.token.Token.{Token}
 use Rattle.sbl_token.specs.Lexemes.{Lexeme, lexeme_of}
-use Rattle.sbl_text.specs.Tokens.{PlacedToken, placed_of}
+use Rattle.sbl_text.specs.Tokens.{ArePlacedFrom, PlacedToken, placed_of}
 use Rattle.sbl_parser.specs.Reading.{IsSyntaxAt, IsTooDeepAt, IsOutOfProfileAt}
 use Rattle.sbl_ast.specs.Texts.{Text, script}
 use Rattle.sbl_text.specs.Directives.{start}
 use Rattle.sbl_parser.specs.FaultOffsets as grammar
-use Rattle.sbl_script.specs.Reading.{HasTokens, lexemes, place_of, IsFaultOf, IsUnread, first_left_out}
+use Rattle.sbl_script.specs.Reading.{HasTokens, lexemes, place_of, IsFaultOf, IsUnread, first_left_out, max_script}
 
 pub lexemes_same : (ts : List Token) → map lexeme_of ts ≡ lexemes (map placed_of ts)
 lexemes_same [] = refl
@@ -58,6 +59,15 @@ read_as (Err f) P ts h = h
 pub offered_too : {X : Type 0} (r : Result X ScriptFault) (ts : List PlacedToken) → first_left_out ts ≡ None → IfOk r (λ x. first_left_out ts ≡ None)
 offered_too (Ok x) ts h = h
 offered_too (Err f) ts h = tt
+
+-- what the code has of a text and a copy of its tokens holds of the bytes and the tokens
+pub unread_bytes : (bytes text : List ℕ) (us ts : List Token) (f : ScriptFault) → text ≡ bytes → us ≡ ts → length bytes ≤ max_script → IsUtf8 bytes → ArePlacedFrom start (chars text) (map placed_of ts)
+    → (f ≡ fault.OutOfMemory) ⊎ IsUnread script (map placed_of us) (length text) f → HasTokens start bytes (map placed_of ts) × ((f ≡ fault.OutOfMemory) ⊎ IsUnread script (map placed_of ts) (length bytes) f)
+unread_bytes bytes text us ts f is same short utf8 cut told =
+    let found = subst (λ (xs : List Token). (f ≡ fault.OutOfMemory) ⊎ IsUnread script (map placed_of xs) (length text) f) same told in (
+      record { short = short; text = utf8; cut = subst (λ (x : List ℕ). ArePlacedFrom start (chars x) (map placed_of ts)) is cut },
+      subst (λ (x : List ℕ). (f ≡ fault.OutOfMemory) ⊎ IsUnread script (map placed_of ts) (length x) f) is found,
+    )
 
 -- the fault of bytes whose tokens have no tree
 pub unread_is_fault : (bytes external : List ℕ) (ts : List PlacedToken) (f : ScriptFault) → HasTokens start bytes ts

@@ -139,13 +139,11 @@ fn set(alloc: Global, escapes: &mut Escapes, plain: &Plain) -> Result<(), Script
     }
 }
 
+/// Whether the definition was reached.
+type Reached = Result<bool, ScriptFault>;
+
 /// Adds what the items before the definition set. Returns whether the definition was reached.
-fn reach_in(
-    alloc: Global,
-    plains: &[Plain],
-    part: Part<'_>,
-    escapes: &mut Escapes,
-) -> Result<bool, ScriptFault>
+fn reach_in(alloc: Global, plains: &[Plain], part: Part<'_>, escapes: &mut Escapes) -> Reached
     ensures reached { IfOk result (λ found. (escapes.new, found) ≡ homes.walk_in (spec.changes (view_part part.entry)) (map view_plain plains.now) escapes.old) }
     ensures fault { IfErr result (λ f. f ≡ ScriptFault.OutOfMemory) }
 {
@@ -158,12 +156,7 @@ fn reach_in(
     Ok(false)
 }
 
-fn reach(
-    alloc: Global,
-    items: &[ScriptItem],
-    part: Part<'_>,
-    escapes: &mut Escapes,
-) -> Result<bool, ScriptFault>
+fn reach(alloc: Global, items: &[ScriptItem], part: Part<'_>, escapes: &mut Escapes) -> Reached
     ensures reached { IfOk result (λ found. (escapes.new, found) ≡ homes.walk_to (spec.changes (view_part part.entry)) (view_items items.now) escapes.old) }
     ensures fault { IfErr result (λ f. f ≡ ScriptFault.OutOfMemory) }
 {

@@ -119,6 +119,20 @@ fn terms_of_tokens(
     parse_terms(alloc, tokens, end)
 }
 
+/// Returns the script with a text as the body of a routine or the terms of a grouping.
+macro_rules! with_part {
+    ($self:ident, $alloc:ident, $name:ident, $text:ident; $part:ident, $find:ident, $missing:ident; $read:ident: $parse:ident => $make:ident) => {{
+        let Some(_replaced) = edits::$find(&$self.items, $name) else {
+            return Err(EditFault::$missing);
+        };
+        let found = $self.tokens_in($alloc, Part::$part($name), $text)?;
+        let $read = $parse($alloc, &found, $text.len())?;
+        let new = edits::$make($alloc, $name, $read)?;
+        let script = $self.with_definition($alloc, Part::$part($name), new)?;
+        Ok(script)
+    }};
+}
+
 /// A script that has passed all checks, with the name of the external that is run.
 #[derive(Drop)]
 pub struct Script {
@@ -206,9 +220,9 @@ impl Script {
         ensures missing { (f : EditFault) → text_for (source_of self.now).items (view_part part.entry) ≡ Err f → result ≡ Err f }
     {
         match part {
-            Part::Routine(name) => self.with_body(alloc, name, text),
-            Part::Among(name, k) => self.with_nth_among(alloc, name, k, text),
-            Part::Grouping(name) => self.with_terms(alloc, name, text),
+            Part::Routine(name) => self.with_routine(alloc, name, text),
+            Part::Among(name, k) => self.with_among(alloc, name, k, text),
+            Part::Grouping(name) => self.with_grouping(alloc, name, text),
         }
     }
 
@@ -218,50 +232,12 @@ impl Script {
         ensures fault { IfErr result (λ f. (f ≡ EditFault.OutOfMemory) ⊎ IsEditFault (source_of self.now) (Routine name.now) text.now f) }
         ensures missing { (f : EditFault) → text_for (source_of self.now).items (Routine name.now) ≡ Err f → result ≡ Err f }
     {
-        self.with(alloc, Part::Routine(name), text)
+        with_part!(self, alloc, name, text; Routine, routine_of, NoRoutine; body: body_of_tokens => routine)
     }
 
     /// Returns the script with `text` in place of the `k`-th among of a routine, as `with` does. Amongs are counted from 1 in
     /// the order of the words `among`.
     pub fn with_among(
-        &self,
-        alloc: Global,
-        routine: &str,
-        k: u64,
-        text: &str,
-    ) -> Result<Script, EditFault>
-        ensures script { IfOk result (λ s. IsEdited (source_of self.now) (among routine.now k) text.now (source_of s)) }
-        ensures fault { IfErr result (λ f. (f ≡ EditFault.OutOfMemory) ⊎ IsEditFault (source_of self.now) (among routine.now k) text.now f) }
-        ensures missing { (f : EditFault) → text_for (source_of self.now).items (among routine.now k) ≡ Err f → result ≡ Err f }
-    {
-        self.with(alloc, Part::Among(routine, k), text)
-    }
-
-    /// Returns the script with `text` as the terms of the grouping `name`, as `with` does.
-    pub fn with_grouping(&self, alloc: Global, name: &str, text: &str) -> Result<Script, EditFault>
-        ensures script { IfOk result (λ s. IsEdited (source_of self.now) (Grouping name.now) text.now (source_of s)) }
-        ensures fault { IfErr result (λ f. (f ≡ EditFault.OutOfMemory) ⊎ IsEditFault (source_of self.now) (Grouping name.now) text.now f) }
-        ensures missing { (f : EditFault) → text_for (source_of self.now).items (Grouping name.now) ≡ Err f → result ≡ Err f }
-    {
-        self.with(alloc, Part::Grouping(name), text)
-    }
-
-    fn with_body(&self, alloc: Global, name: &str, text: &str) -> Result<Script, EditFault>
-        ensures script { IfOk result (λ s. IsEdited (source_of self.now) (Routine name.now) text.now (source_of s)) }
-        ensures fault { IfErr result (λ f. (f ≡ EditFault.OutOfMemory) ⊎ IsEditFault (source_of self.now) (Routine name.now) text.now f) }
-        ensures missing { (f : EditFault) → text_for (source_of self.now).items (Routine name.now) ≡ Err f → result ≡ Err f }
-    {
-        let Some(_replaced) = edits::routine_of(&self.items, name) else {
-            return Err(EditFault::NoRoutine);
-        };
-        let found = self.tokens_in(alloc, Part::Routine(name), text)?;
-        let body = body_of_tokens(alloc, &found, text.len())?;
-        let new = edits::routine(alloc, name, body)?;
-        let script = self.with_definition(alloc, Part::Routine(name), new)?;
-        Ok(script)
-    }
-
-    fn with_nth_among(
         &self,
         alloc: Global,
         routine: &str,
@@ -290,19 +266,13 @@ impl Script {
         }
     }
 
-    fn with_terms(&self, alloc: Global, name: &str, text: &str) -> Result<Script, EditFault>
+    /// Returns the script with `text` as the terms of the grouping `name`, as `with` does.
+    pub fn with_grouping(&self, alloc: Global, name: &str, text: &str) -> Result<Script, EditFault>
         ensures script { IfOk result (λ s. IsEdited (source_of self.now) (Grouping name.now) text.now (source_of s)) }
         ensures fault { IfErr result (λ f. (f ≡ EditFault.OutOfMemory) ⊎ IsEditFault (source_of self.now) (Grouping name.now) text.now f) }
         ensures missing { (f : EditFault) → text_for (source_of self.now).items (Grouping name.now) ≡ Err f → result ≡ Err f }
     {
-        let Some(_replaced) = edits::grouping_of(&self.items, name) else {
-            return Err(EditFault::NoGrouping);
-        };
-        let found = self.tokens_in(alloc, Part::Grouping(name), text)?;
-        let terms = terms_of_tokens(alloc, &found, text.len())?;
-        let new = edits::grouping(alloc, name, terms)?;
-        let script = self.with_definition(alloc, Part::Grouping(name), new)?;
-        Ok(script)
+        with_part!(self, alloc, name, text; Grouping, grouping_of, NoGrouping; terms: terms_of_tokens => grouping)
     }
 
     /// Returns the tokens of a text, read where the definition that the part is in begins.

@@ -44,16 +44,13 @@ use Rattle.sbl_ast.specs.declared.mode.Mode.TheVariants.{Forward}
 use Rattle.sbl_semantics.specs.Landmarks.{amongs_in, landmarks, landmarks_in_others, landmarks_in_rows}
 use Rattle.sbl_semantics.proofs.LandmarkFacts.{number_is, number_others, number_rows, number_starter}
 use Rattle.sbl_semantics.proofs.NumberAfter.{after_is}
-use Rattle.sbl_semantics.proofs.SameParts.{both, name_is, simple_is, move_is, naming_is, splicing_is, assignment_is, comparison_is, kind_is, flag_is, quoted_is, argument_is, expression_is, entries_are, names_are, base_is, terms_are}
+use Rattle.sbl_semantics.proofs.SameParts.{all_are, both, never, pair_is, name_is, simple_is, move_is, naming_is, splicing_is, assignment_is, comparison_is, kind_is, flag_is, quoted_is, argument_is, expression_is, entries_are, names_are, base_is, terms_are}
 use Rattle.sbl_semantics.proofs.SameSelf.{also, name_self, expression_self, entries_self}
 
 -- ---- tokens
 
 abbrev alike : List AtDepth → List AtDepth → Bool
 alike ps qs = pointwise same_lexeme (tokens ps) (tokens qs)
-
-never : {X : Type 0} → false ≡ true → X
-never e = absurd (true≢false (sym e))
 
 lexeme_self : (x : Lexeme) → same_lexeme x x ≡ true
 lexeme_self (lexemes.word v) = true_same reserved.the_type v v refl
@@ -69,16 +66,8 @@ lexeme_is (lexemes.word v) (lexemes.word w) e = ap lexemes.word (same_true reser
 lexeme_is (lexemes.sign r) (lexemes.sign s) e = ap lexemes.sign (same_true written.the_type tt r s e)
 lexeme_is (lexemes.name m) (lexemes.name n) e = ap lexemes.name (name_is m n e)
 lexeme_is (lexemes.number m) (lexemes.number n) e = ap lexemes.number (eqb-true m n e)
-lexeme_is (lexemes.literal p v) (lexemes.literal q w) e =
-    let h = both _ _ e in
-    let a = name_is p q h.0 in
-    let b = name_is v w h.1 in
-    (λ i. lexemes.literal (a i) (b i))
-lexeme_is (lexemes.inserts a b) (lexemes.inserts c d) e =
-    let h = both _ _ e in
-    let x = eqb-true a c h.0 in
-    let y = eqb-true b d h.1 in
-    (λ i. lexemes.inserts (x i) (y i))
+lexeme_is (lexemes.literal p v) (lexemes.literal q w) e = pair_is lexemes.literal (bytes_eq p q) (bytes_eq v w) e (name_is p q) (name_is v w)
+lexeme_is (lexemes.inserts a b) (lexemes.inserts c d) e = pair_is lexemes.inserts (nat_eq a c) (nat_eq b d) e (eqb-true a c) (eqb-true b d)
 lexeme_is (lexemes.macro_name m) (lexemes.macro_name n) e = ap lexemes.macro_name (name_is m n e)
 lexeme_is _ _ e = never e
 
@@ -87,14 +76,7 @@ lexemes_self [] = refl
 lexemes_self (x ∷ xs) = also _ _ (lexeme_self x) (lexemes_self xs)
 
 lexemes_are : (xs ys : List Lexeme) → pointwise same_lexeme xs ys ≡ true → xs ≡ ys
-lexemes_are [] [] e = refl
-lexemes_are (x ∷ xs) (y ∷ ys) e =
-    let h = both _ _ e in
-    let a = lexeme_is x y h.0 in
-    let b = lexemes_are xs ys h.1 in
-    (λ i. a i ∷ b i)
-lexemes_are [] (y ∷ ys) e = never e
-lexemes_are (x ∷ xs) [] e = never e
+lexemes_are = all_are Lexeme same_lexeme lexeme_is
 
 alike_self : (ps : List AtDepth) → alike ps ps ≡ true
 alike_self ps = lexemes_self (tokens ps)

@@ -42,8 +42,31 @@ pub both : (a b : Bool) → (a && b) ≡ true → (a ≡ true) × (b ≡ true)
 both true b e = (refl, e)
 both false b e = absurd (true≢false (sym e))
 
-never : {X : Type 0} → false ≡ true → X
+pub never : {X : Type 0} → false ≡ true → X
 never e = absurd (true≢false (sym e))
+
+-- two or three parts of one thing
+pub pair_is : {A B C : Type 0} (f : A → B → C) {a c : A} {b d : B} (u v : Bool) → (u && v) ≡ true → (u ≡ true → a ≡ c) → (v ≡ true → b ≡ d) → f a b ≡ f c d
+pair_is f u v e p q =
+    let h = both u v e in
+    let a = p h.0 in
+    let b = q h.1 in
+    (λ i. f (a i) (b i))
+
+triple_is : {A B C D : Type 0} (f : A → B → C → D) {a x : A} {b y : B} {c z : C} (u v w : Bool) → (u && (v && w)) ≡ true → (u ≡ true → a ≡ x) → (v ≡ true → b ≡ y) → (w ≡ true → c ≡ z) → f a b c ≡ f x y z
+triple_is f u v w e p q r =
+    let h = both u (v && w) e in
+    let j = both v w h.1 in
+    let a = p h.0 in
+    let b = q j.0 in
+    let c = r j.1 in
+    (λ i. f (a i) (b i) (c i))
+
+-- lists of things
+pub all_are : (A : Type 0) (same : A → A → Bool) → ((x y : A) → same x y ≡ true → x ≡ y) → (xs ys : List A) → pointwise same xs ys ≡ true → xs ≡ ys
+all_are A same is [] [] e = refl
+all_are A same is (x ∷ xs) (y ∷ ys) e = pair_is (λ (a : A) (l : List A). a ∷ l) (same x y) (pointwise same xs ys) e (is x y) (all_are A same is xs ys)
+all_are A same is _ _ e = never e
 
 pub name_is : (m n : List ℕ) → bytes_eq m n ≡ true → m ≡ n
 name_is m n e = (bytes_eq-Decides m n).0 e
@@ -108,42 +131,21 @@ argument_is (by_name m) (written_out r) e = never e
 
 mutual
   pub expression_is : (x y : Expression) → same_expression x y ≡ true → x ≡ y
-  expression_is (expression p ss) (expression q ts) e =
-      let h = both _ _ e in
-      let a = product_is p q h.0 in
-      let b = sums_is ss ts h.1 in
-      (λ i. expression (a i) (b i))
+  expression_is (expression p ss) (expression q ts) e = pair_is expression (same_product p q) (same_sums ss ts) e (product_is p q) (sums_is ss ts)
 
   sums_is : (x y : Sums) → same_sums x y ≡ true → x ≡ y
   sums_is no_sums no_sums e = refl
-  sums_is (sum o p ss) (sum u q ts) e =
-      let h = both _ _ e in
-      let j = both _ _ h.1 in
-      let c = additive_is o u h.0 in
-      let a = product_is p q j.0 in
-      let b = sums_is ss ts j.1 in
-      (λ i. sum (c i) (a i) (b i))
-  sums_is no_sums (sum u q ts) e = never e
-  sums_is (sum o p ss) no_sums e = never e
+  sums_is (sum o p ss) (sum u q ts) e = triple_is sum (sameb additive.the_type o u) (same_product p q) (same_sums ss ts) e (additive_is o u) (product_is p q) (sums_is ss ts)
+  sums_is _ _ e = never e
 
   product_is : (x y : Product) → same_product x y ≡ true → x ≡ y
-  product_is (product f ss) (product g ts) e =
-      let h = both _ _ e in
-      let a = factor_is f g h.0 in
-      let b = scales_is ss ts h.1 in
-      (λ i. product (a i) (b i))
+  product_is (product f ss) (product g ts) e = pair_is product (same_factor f g) (same_scales ss ts) e (factor_is f g) (scales_is ss ts)
 
   scales_is : (x y : Scales) → same_scales x y ≡ true → x ≡ y
   scales_is no_scales no_scales e = refl
   scales_is (scale o f ss) (scale u g ts) e =
-      let h = both _ _ e in
-      let j = both _ _ h.1 in
-      let c = multiplicative_is o u h.0 in
-      let a = factor_is f g j.0 in
-      let b = scales_is ss ts j.1 in
-      (λ i. scale (c i) (a i) (b i))
-  scales_is no_scales (scale u g ts) e = never e
-  scales_is (scale o f ss) no_scales e = never e
+      triple_is scale (sameb multiplicative.the_type o u) (same_factor f g) (same_scales ss ts) e (multiplicative_is o u) (factor_is f g) (scales_is ss ts)
+  scales_is _ _ e = never e
 
   factor_is : (x y : Factor) → same_factor x y ≡ true → x ≡ y
   factor_is (negated f) (negated g) e = ap negated (factor_is f g e)
@@ -161,31 +163,13 @@ condition_is None (Some n) e = never e
 condition_is (Some m) None e = never e
 
 pub entry_is : (x y : Entry) → same_entry x y ≡ true → x ≡ y
-entry_is (entry q m) (entry r n) e =
-    let h = both _ _ e in
-    let a = quoted_is q r h.0 in
-    let b = condition_is m n h.1 in
-    (λ i. entry (a i) (b i))
+entry_is (entry q m) (entry r n) e = pair_is entry (same_quoted q r) (option_eq bytes_eq m n) e (quoted_is q r) (condition_is m n)
 
 pub entries_are : (x y : List Entry) → pointwise same_entry x y ≡ true → x ≡ y
-entries_are [] [] e = refl
-entries_are (a ∷ xs) (b ∷ ys) e =
-    let h = both _ _ e in
-    let p = entry_is a b h.0 in
-    let q = entries_are xs ys h.1 in
-    (λ i. p i ∷ q i)
-entries_are [] (b ∷ ys) e = never e
-entries_are (a ∷ xs) [] e = never e
+entries_are = all_are Entry same_entry entry_is
 
 pub names_are : (x y : List (List ℕ)) → pointwise bytes_eq x y ≡ true → x ≡ y
-names_are [] [] e = refl
-names_are (a ∷ xs) (b ∷ ys) e =
-    let h = both _ _ e in
-    let p = name_is a b h.0 in
-    let q = names_are xs ys h.1 in
-    (λ i. p i ∷ q i)
-names_are [] (b ∷ ys) e = never e
-names_are (a ∷ xs) [] e = never e
+names_are = all_are (List ℕ) bytes_eq name_is
 
 pub base_is : (x y : Option Base) → option_eq (sameb base.the_type) x y ≡ true → x ≡ y
 base_is None None e = refl
@@ -193,14 +177,8 @@ base_is (Some m) (Some n) e = ap Some (same_true base.the_type tt m n e)
 base_is None (Some n) e = never e
 base_is (Some m) None e = never e
 
+term_is : (x y : Term) → same_term x y ≡ true → x ≡ y
+term_is (term o a) (term u b) e = pair_is term (sameb additive.the_type o u) (same_argument a b) e (additive_is o u) (argument_is a b)
+
 pub terms_are : (x y : List Term) → pointwise same_term x y ≡ true → x ≡ y
-terms_are [] [] e = refl
-terms_are (term o a ∷ xs) (term u b ∷ ys) e =
-    let h = both _ _ e in
-    let j = both _ _ h.0 in
-    let c = additive_is o u j.0 in
-    let p = argument_is a b j.1 in
-    let q = terms_are xs ys h.1 in
-    (λ i. term (c i) (p i) ∷ q i)
-terms_are [] (term u b ∷ ys) e = never e
-terms_are (term o a ∷ xs) [] e = never e
+terms_are = all_are Term same_term term_is

@@ -4,6 +4,15 @@ ghost use Rattle.std.specs.Prelude.{◌≡◌};
 
 use thiserror::Error;
 
+/// Returns the name of the variant that a value is.
+macro_rules! variant_name {
+    ($value:ident: $kind:ident; $($variant:ident),*) => {
+        match $value {
+            $($kind::$variant => stringify!($variant),)*
+        }
+    };
+}
+
 /// Why a run is refused. Its display is the code and the name.
 #[derive(Clone, Copy, Debug, Drop, PartialEq, Eq, Error)]
 pub enum RunFault {
@@ -37,14 +46,6 @@ impl RunFault {
     pub fn name(self) -> &'static str
         ensures { result.now ≡ name_of self }
     {
-        match self {
-            RunFault::Steps => "Steps",
-            RunFault::Depth => "Depth",
-            RunFault::Slice => "Slice",
-            RunFault::Cursor => "Cursor",
-            RunFault::Integer => "Integer",
-            RunFault::Divide => "Divide",
-            RunFault::TooLong => "TooLong",
-        }
+        variant_name!(self: RunFault; Steps, Depth, Slice, Cursor, Integer, Divide, TooLong)
     }
 }

@@ -1,12 +1,13 @@
 //! Definitions of a script: their lines, and the text of one that was typed whole.
-ghost use Rattle.std.specs.Prelude.{◌≡◌, IfOk, MatchOption, None, OnErr, Some, map, true};
-ghost use Rattle.std.specs.Option.{is_some, option_map};
+ghost use Rattle.std.specs.Prelude.{◌≡◌, ◌∷◌, Bool, IfOk, List, MatchOption, None, OnErr, Some, map, true};
+ghost use Rattle.std.specs.Option.{is_some, option_map, option_or};
 ghost use Rattle.sbl_print.specs.Canonical.{plain_text};
 ghost use Rattle.sbl_script.specs.Edits as edits;
 ghost use Rattle.sbl_script.specs.Homes as homes;
 ghost use Rattle.sbl_script.specs.ParsedScript.{source_of};
 ghost use Rattle.sbl_script.specs.Parts.{view_part};
-ghost use Rattle.sbl_ast.specs.View.{view_items, view_plain};
+ghost use Rattle.sbl_ast.specs.Tree as trees;
+ghost use Rattle.sbl_ast.specs.View.{view_item, view_items, view_plain};
 ghost use Rattle.sbl_source_map.specs.Definitions as spec;
 ghost use Rattle.sbl_source_map.specs.HeadReader.{IsAfterWord, IsEndOf, head_words};
 ghost use Rattle.sbl_source_map.specs.Heads as heads;
@@ -122,14 +123,13 @@ fn defines(plain: &Plain, name: &str) -> bool
     }
 }
 
-/// Returns the item if it defines this name.
-fn plain_if<'a>(plain: &'a Plain, name: &str) -> Option<&'a Plain>
-    ensures { homes.Finds (λ x. view_plain x.now) result (homes.plain_if (spec.defines_name name.now) (view_plain plain.now)) }
+/// Returns the item as a list of one, or the items of a `backwardmode`.
+fn plains_of(item: &ScriptItem) -> &[Plain]
+    ensures { (p : trees.Plain → Bool) (is : List trees.Item) → homes.first_passing p (view_item item.now ∷ is) ≡ option_or (homes.first_in p (map view_plain result.now)) (homes.first_passing p is) }
 {
-    if defines(plain, name) {
-        Some(plain)
-    } else {
-        None
+    match item {
+        ScriptItem::Plain(plain) => from_ref(plain),
+        ScriptItem::BackwardMode(plains) => plains.as_slice(),
     }
 }
 
@@ -138,8 +138,8 @@ fn first_in<'a>(plains: &'a [Plain], name: &str) -> Option<&'a Plain>
     ensures { homes.Finds (λ x. view_plain x.now) result (homes.first_in (spec.defines_name name.now) (map view_plain plains.now)) }
 {
     for plain in plains {
-        if let Some(found) = plain_if(plain, name) {
-            return Some(found);
+        if defines(plain, name) {
+            return Some(plain);
         }
     }
     None
@@ -150,12 +150,8 @@ pub fn definition_of<'a>(items: &'a [ScriptItem], name: &str) -> Option<&'a Plai
     ensures { homes.Finds (λ x. view_plain x.now) result (edits.first_of (spec.defines_name name.now) (view_items items.now)) }
 {
     for item in items {
-        let found = match item {
-            ScriptItem::Plain(plain) => plain_if(plain, name),
-            ScriptItem::BackwardMode(plains) => first_in(plains.as_slice(), name),
-        };
-        if let Some(plain) = found {
-            return Some(plain);
+        if let Some(found) = first_in(plains_of(item), name) {
+            return Some(found);
         }
     }
     None

@@ -1,7 +1,9 @@
 //! The place of a fault of the checks.
 
-ghost use Rattle.std.specs.Prelude.{◌≡◌, ◌≤◌, List, None, Some, IfOk, MatchOption, length, map};
+ghost use Rattle.std.specs.Prelude.{◌≡◌, ◌≤◌, List, None, Some, IfOk, IfSome, MatchOption, length, map};
+ghost use Rattle.std.specs.List.{All};
 ghost use Rattle.std.specs.Str.{IsUtf8, chars};
+ghost use Rattle.sbl_token.specs.Lexemes.{SaysFitting};
 ghost use Rattle.sbl_text.specs.{Directives.start, Tokens.ArePlaced, Tokens.PlacedToken, Tokens.placed_of};
 ghost use Rattle.sbl_ast.specs.View.{view_items};
 ghost use Rattle.sbl_script.specs.Reading as spec;
@@ -43,11 +45,9 @@ fn text_of(bytes: &[u8]) -> Option<&str>
 }
 
 /// Returns the tokens of a text, or `None` if it has none. Returns `AllocError` if an allocation fails.
-pub(crate) fn tokens_of<'a>(
-    alloc: Global,
-    text: &'a str,
-) -> Result<Option<Vec<Token<'a>>>, AllocError>
-    ensures { IfOk result (λ o. MatchOption o ((ts : List PlacedToken) → ArePlaced (chars text.now) ts → ⊥) (λ ts. ArePlaced (chars text.now) (map placed_of ts.items))) }
+pub fn tokens_of<'a>(alloc: Global, text: &'a str) -> Result<Option<Vec<Token<'a>>>, AllocError>
+    ensures placed { IfOk result (λ o. MatchOption o ((ts : List PlacedToken) → ArePlaced (chars text.now) ts → ⊥) (λ ts. ArePlaced (chars text.now) (map placed_of ts.items))) }
+    ensures fitting { IfOk result (λ o. IfSome o (λ ts. All SaysFitting ts.items)) }
 {
     first_fault_is_one();
     match tokens(alloc, text) {

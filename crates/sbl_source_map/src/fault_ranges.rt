@@ -55,9 +55,10 @@ fn past_literal(inserts: Option<Inserts>, mut text: &str) -> &str
     while let Some((c, rest)) = split_first(text) {
         if inside {
             inside = !closes(inserts, c);
-        } else if c == '\'' {
-            return rest;
         } else {
+            if c == '\'' {
+                return rest;
+            }
             inside = opens(inserts, c);
         }
         text = rest;

@@ -19,7 +19,7 @@ pub use block_places::offset_in_block;
 pub use definitions::{definition_of, definition_text, without_head};
 pub use fault_lists::{PlacedFault, faults_of_text};
 pub use fault_numbers::number_of;
-pub use fault_places::{FaultPlace, offset_of_fault, place_of_fault};
+pub use fault_places::{FaultPlace, offset_of_fault, place_of_fault, tokens_of};
 pub use parts::{Excerpt, begins_item, cut_at_part, depth_after};
 pub use positions::{Position, position_of};
 pub use sbl_text::ScriptFault;

@@ -16,6 +16,9 @@ use sbl_script::Part;
 use sbl_text::{Kind, Sign, Token, Word};
 use std::alloc::{AllocError, Global};
 
+/// Tokens that were looked for; `None` if they are not there.
+type Found<'t, 'a> = Option<&'t [Token<'a>]>;
+
 /// A text that is cut at a part.
 #[derive(Clone, Copy, Debug, PartialEq, Eq)]
 pub struct Excerpt<'a> {
@@ -110,11 +113,7 @@ fn item_tokens<'t, 'a>(tokens: &'t [Token<'a>]) -> &'t [Token<'a>]
 }
 
 /// Returns the tokens after `define NAME`, of a routine after `define NAME as`; `None` if these tokens begin otherwise.
-fn after_head<'t, 'a>(
-    tokens: &'t [Token<'a>],
-    name: &str,
-    is_routine: bool,
-) -> Option<&'t [Token<'a>]>
+fn after_head<'t, 'a>(tokens: &'t [Token<'a>], name: &str, is_routine: bool) -> Found<'t, 'a>
     ensures { option_map (λ ts. map placed_of ts.now) result ≡ parts.after_head is_routine name.now (map placed_of tokens.now) }
 {
     let (define, rest) = tokens.split_first()?;
@@ -127,11 +126,7 @@ fn after_head<'t, 'a>(
 }
 
 /// Returns the tokens of the first definition of this name: the body of a routine, or the terms of a grouping.
-fn definition_tokens<'t, 'a>(
-    tokens: &'t [Token<'a>],
-    name: &str,
-    is_routine: bool,
-) -> Option<&'t [Token<'a>]>
+fn definition_tokens<'t, 'a>(tokens: &'t [Token<'a>], name: &str, is_routine: bool) -> Found<'t, 'a>
     ensures { option_map (λ ts. map placed_of ts.now) result ≡ parts.definition_tokens is_routine name.now (map placed_of tokens.now) }
 {
     for i in 0..tokens.len() {
@@ -166,7 +161,7 @@ fn bracket_tokens<'t, 'a>(tokens: &'t [Token<'a>]) -> &'t [Token<'a>]
 }
 
 /// Returns the tokens of the `k`-th among, counted from 1 by the words `among`.
-fn among_tokens<'t, 'a>(tokens: &'t [Token<'a>], k: u64) -> Option<&'t [Token<'a>]>
+fn among_tokens<'t, 'a>(tokens: &'t [Token<'a>], k: u64) -> Found<'t, 'a>
     ensures { option_map (λ ts. map placed_of ts.now) result ≡ option_map (parts.until_closed 0) (parts.from_among k (map placed_of tokens.now)) }
 {
     let mut left = k;
@@ -182,7 +177,7 @@ fn among_tokens<'t, 'a>(tokens: &'t [Token<'a>], k: u64) -> Option<&'t [Token<'a
 }
 
 /// Returns the tokens of a part.
-fn part_tokens<'t, 'a>(tokens: &'t [Token<'a>], part: Part<'_>) -> Option<&'t [Token<'a>]>
+fn part_tokens<'t, 'a>(tokens: &'t [Token<'a>], part: Part<'_>) -> Found<'t, 'a>
     ensures { option_map (λ ts. map placed_of ts.now) result ≡ parts.part_tokens (view_part part.entry) (map placed_of tokens.now) }
 {
     match part {

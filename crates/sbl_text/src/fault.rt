@@ -86,18 +86,18 @@ pub enum ScriptFault {
     OutOfMemory,
 }
 
-impl From<AllocError> for ScriptFault {
-    ghost from_gives = { λ _ e. e ≡ OutOfMemory };
-
-    fn from(_e: AllocError) -> ScriptFault {
-        ScriptFault::OutOfMemory
-    }
-}
-
 impl<T: Drop> From<AllocFailed<T>> for ScriptFault {
     ghost from_gives = { λ _ e. e ≡ OutOfMemory };
 
     fn from(_e: AllocFailed<T>) -> ScriptFault {
+        ScriptFault::OutOfMemory
+    }
+}
+
+impl From<AllocError> for ScriptFault {
+    ghost from_gives = { λ _ e. e ≡ OutOfMemory };
+
+    fn from(_e: AllocError) -> ScriptFault {
         ScriptFault::OutOfMemory
     }
 }

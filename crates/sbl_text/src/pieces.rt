@@ -85,12 +85,12 @@ fn past_block(mut text: &str) -> Option<&str>
     ensures value { MatchOption result (spec.past_block (chars text.entry.now) ≡ None) (λ r. spec.past_block (chars text.entry.now) ≡ Some (chars r.now)) }
     ensures within { IfSome result (λ r. length r.now < length text.entry.now) }
 {
+    let mut after_star = false;
     while let Some((c, rest)) = split_first(text) {
-        if c == '*' {
-            if let Some(('/', following)) = split_first(rest) {
-                return Some(following);
-            }
+        if after_star && c == '/' {
+            return Some(rest);
         }
+        after_star = c == '*';
         text = rest;
     }
     None

@@ -1,12 +1,11 @@
 //! The rows of what is in a text, with the places.
 
-ghost use Rattle.std.specs.Prelude.{◌≡◌, ◌<◌, ◌+◌, ◌^◌, ◌++◌, [], IfOk, IfSome, List, MatchOption, OnOk, map};
+ghost use Rattle.std.specs.Prelude.{◌≡◌, ◌<◌, ◌+◌, ◌^◌, ◌++◌, [], IfOk, OnOk, map};
 ghost use Rattle.std.specs.List.{All};
-ghost use Rattle.std.specs.Str.{chars};
 ghost use Rattle.csv.specs.Records.{fields_of, partial_of};
 ghost use Rattle.sbl_io.specs.Records.{record_line};
 ghost use Rattle.sbl_token.specs.Lexemes.{SaysFitting, lexeme_of};
-ghost use Rattle.sbl_text.specs.Tokens.{ArePlaced, PlacedToken, placed_of};
+ghost use Rattle.sbl_text.specs.Tokens.{placed_of};
 ghost use Rattle.sbl_source_map.specs.PartTokens.{is_as};
 ghost use Rattle.sbl_text_rows.specs.PlaceRows as spec;
 ghost use Rattle.sbl_text_rows.specs.Rows.{line_if};
@@ -18,8 +17,8 @@ use crate::rulers::Ruler;
 use crate::walks::Walk;
 use csv::ByteRecord;
 use sbl_io::{push_line, push_number, text_of};
-use sbl_text::laws::first_fault_is_one;
-use sbl_text::{Kind, ScriptFault, Token, Value, Word, tokens};
+use sbl_source_map::tokens_of;
+use sbl_text::{Kind, Token, Value, Word};
 use std::alloc::{AllocError, Global};
 
 /// The rows so far, the position that was asked for last, and what the tokens so far say of the next one.
@@ -143,21 +142,6 @@ impl Rows<'_> {
             Kind::Name => self.push_name(token),
             _ => Ok(()),
         }
-    }
-}
-
-/// Returns the tokens of a text, or `None` if it has none. Returns `AllocError` if an allocation fails.
-fn tokens_of<'a>(alloc: Global, text: &'a str) -> Result<Option<Vec<Token<'a>>>, AllocError>
-    ensures placed { IfOk result (λ o. MatchOption o ((ts : List PlacedToken) → ArePlaced (chars text.now) ts → ⊥) (λ ts. ArePlaced (chars text.now) (map placed_of ts.items))) }
-    ensures fitting { IfOk result (λ o. IfSome o (λ ts. All SaysFitting ts.items)) }
-{
-    first_fault_is_one();
-    match tokens(alloc, text) {
-        Ok(found) => Ok(Some(found)),
-        Err(fault) => match fault {
-            ScriptFault::OutOfMemory => Err(AllocError),
-            _ => Ok(None),
-        },
     }
 }
 

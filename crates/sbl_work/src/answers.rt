@@ -23,7 +23,7 @@ use crate::text_replies::{file_tokens_reply, hello_reply, places_reply, text_rep
 use crate::whys::{integers_reply, why_reply};
 use crate::word_files::words_reply;
 use sbl_bench::{Bench, BreakOff, EditFault};
-use sbl_explain::{KeptTakes, unused_text};
+use sbl_explain::KeptTakes;
 use sbl_history::{Desk, changes_text};
 use sbl_reports::{largest_text, stats_text, text_of_lines};
 use sbl_sessions::{Reply, answer_line_or_break, report};
@@ -120,7 +120,7 @@ fn stats(alloc: Global, bench: &mut Bench) -> Reply
 fn unused_reply(alloc: Global, bench: &Bench, kept: &mut KeptTakes) -> Reply
     ensures { (d : State) → IsWorkAnswer (contents_of bench.now) d spec.Unused result (contents_of bench.now) d }
 {
-    report(unused_text(alloc, bench, kept))
+    report(kept.unused_text(alloc, bench))
 }
 
 /// Returns the reply to `largest`.

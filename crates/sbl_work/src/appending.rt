@@ -45,9 +45,12 @@ impl Added {
         false
     }
 
-    /// Notes that a word of the start was removed.
-    pub(crate) fn note_removed(&mut self) {
-        self.first = self.first.saturating_sub(1);
+    /// Notes that a line was answered. `before` is how many words there were. If there are fewer now and `is_of_start` is true, a word of
+    /// the start was removed.
+    pub(crate) fn note_answered(&mut self, bench: &Bench, before: usize, is_of_start: bool) {
+        if bench.len() < before && is_of_start {
+            self.first = self.first.saturating_sub(1);
+        }
     }
 
     /// Notes that the vocabulary is that of the file of words, and has this number of words.

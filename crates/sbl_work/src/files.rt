@@ -4,6 +4,7 @@ ghost use Rattle.sbl_bench.specs.KeptRuns.{contents_of};
 ghost use Rattle.sbl_work.specs.WholeWork.{IsOpened};
 
 use crate::appending::{Added, lines_to_append};
+use crate::folder::Folder;
 use sbl_bench::{Bench, WordKeys};
 use sbl_history::{has_crlf, push_crlf};
 use sbl_input::{LoadFault, words_in};
@@ -149,7 +150,7 @@ fn is_words<F: Files>(files: &F, paths: &Paths, path: &str) -> bool {
 }
 
 /// Writes the text of the current script to a file. The file of the script, by whatever name, is written only if it still has the
-/// bytes that were read from it last, `seen`.
+/// bytes that were read from it last.
 ///
 /// # Errors
 ///
@@ -254,31 +255,31 @@ fn append_to<F: Files + AllocGlobal>(
 ///
 /// Returns the faults of `save_file`, and `NotWritten` also for another file, and if the path is empty and there is no file of words.
 pub(crate) fn append<F: Files + AllocGlobal>(
-    files: &F,
-    paths: &Paths,
-    added: &mut Added,
+    folder: &mut Folder<'_, F>,
     bench: &Bench,
     path: &str,
 ) -> Result<Vec<u8>, SaveFault> {
+    let files = folder.files;
+    let paths = folder.paths;
     let path = match &paths.words {
         Some(words) if path.is_empty() => words.as_str(),
         None if path.is_empty() => return Err(SaveFault::NotWritten),
         _ => path,
     };
-    let words = added.words(files.alloc(), bench)?;
+    let words = folder.added.words(files.alloc(), bench)?;
     if is_free(files, path) {
-        let made = added.name_to_make(files.alloc(), path)?;
+        let made = folder.added.name_to_make(files.alloc(), path)?;
         let appended = append_to(files, &words, path, &[], Former::Missing);
         let is_made = match &appended {
             Ok(lines) => !lines.is_empty(),
             Err(fault) => *fault == SaveFault::NotSettled,
         };
         if is_made {
-            added.note_made(made);
+            folder.added.note_made(made);
         }
         return appended;
     }
-    if !may_append(files, paths, added, path) || !is_ordinary(files, path) {
+    if !may_append(files, paths, &folder.added, path) || !is_ordinary(files, path) {
         return Err(SaveFault::NotWritten);
     }
     let old = match read_file(files, path) {

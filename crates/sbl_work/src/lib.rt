@@ -6,6 +6,7 @@ mod appending;
 mod change_replies;
 mod fault_replies;
 mod files;
+mod folder;
 pub mod laws;
 mod lookups;
 mod observing;

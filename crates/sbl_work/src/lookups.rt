@@ -17,7 +17,7 @@ ghost use Rattle.sbl_work.specs.ReplyViews.{IsWorkAnswer};
 use crate::replies::{NO_CLASS, NO_STRING, edit_reply};
 use crate::whys::characters_of;
 use sbl_bench::{Bench, EditFault};
-use sbl_explain::{KeptTakes, Question, UsesFault, counts_text, uses_text};
+use sbl_explain::{KeptTakes, Question, UsesFault};
 use sbl_reports::{found_text, stem_text};
 use sbl_sessions::{BAD_COMMAND, Reply, number_in, report};
 use std::alloc::Global;
@@ -49,7 +49,7 @@ fn fault_reply(fault: UsesFault) -> Reply
 fn users_reply(alloc: Global, bench: &Bench, kept: &mut KeptTakes, question: Question<'_>) -> Reply
     ensures { IsReply result (uses_reply_text (contents_of bench.now) (question_of question.entry)) ⊎ IsReply result (edit_text (Some EditFault.OutOfMemory)) }
 {
-    match uses_text(alloc, bench, kept, question) {
+    match kept.uses_text(alloc, bench, question) {
         Ok(text) => Reply::Report(text),
         Err(fault) => fault_reply(fault),
     }
@@ -113,7 +113,7 @@ pub(crate) fn uses_reply(alloc: Global, bench: &Bench, kept: &mut KeptTakes, tex
 pub(crate) fn counts_reply(alloc: Global, bench: &Bench, kept: &mut KeptTakes) -> Reply
     ensures { (d : State) → IsWorkAnswer (contents_of bench.now) d spec.Counts result (contents_of bench.now) d }
 {
-    report(counts_text(alloc, bench, kept))
+    report(kept.counts_text(alloc, bench))
 }
 
 /// Returns the reply to `find`.

@@ -57,7 +57,7 @@ pub(crate) enum Origin<'a> {
 }
 
 /// Returns a text and where it is from, if the edit was refused for it; `None` also if an allocation fails.
-pub(crate) fn refused_source(
+fn refused_source(
     alloc: Global,
     origin: Origin<'_>,
     text: &[u8],
@@ -78,5 +78,20 @@ pub(crate) fn refused_source(
         (Origin::Block(_), Ok(line), Ok(text)) => Some(RefusedSource::Block { line, text }),
         (Origin::File(_), Ok(path), Ok(text)) => Some(RefusedSource::File { path, text }),
         _ => None,
+    }
+}
+
+/// An edit by a text: where the text is from, and what keeps it if the edit is refused for it.
+#[derive(Drop)]
+pub(crate) struct Attempt<'a> {
+    pub(crate) alloc: Global,
+    pub(crate) origin: Origin<'a>,
+    pub(crate) refused: &'a mut Option<RefusedSource>,
+}
+
+impl Attempt<'_> {
+    /// Notes what came of the edit by this text.
+    pub(crate) fn note(self, text: &[u8], edited: Result<(), EditFault>) {
+        *self.refused = refused_source(self.alloc, self.origin, text, edited);
     }
 }

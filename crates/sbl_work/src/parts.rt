@@ -12,7 +12,7 @@ ghost use Rattle.sbl_work.specs.Replies.{ReplacesKept};
 ghost use Rattle.sbl_script.specs.Parts.{view_part};
 ghost use Rattle.sbl_work.specs.ReplyViews.{Answers, FindsBlock, IsFamiliesAnswer, IsKeptPart, IsPartResult, IsWorkAnswer, NamesText};
 
-use crate::observing::{Origin, RefusedSource, refused_source};
+use crate::observing::{Attempt, Origin, RefusedSource};
 use crate::refusals::{note_part, note_whole};
 use crate::replies::{NOT_TEXT, edit_reply};
 use crate::requests::BlockRequest;
@@ -35,10 +35,9 @@ fn text_of(block: BlockText) -> Result<Vec<u8>, EditFault>
     }
 }
 
-/// Replaces the whole script by the text of a block. Keeps the text if it has a fault; then `refused` has it, too.
+/// Replaces the whole script by the text of a block. Keeps the text if it has a fault.
 fn replace_by<B: BreakOff>(
-    alloc: Global,
-    refused: &mut Option<RefusedSource>,
+    attempt: Attempt<'_>,
     desk: &mut Desk,
     bench: &mut Bench,
     block: BlockText,
@@ -49,7 +48,7 @@ fn replace_by<B: BreakOff>(
     match text_of(block) {
         Ok(text) => {
             let answer = desk.replace(bench, &text, break_off);
-            *refused = refused_source(alloc, Origin::Block("replace"), &text, answer);
+            attempt.note(&text, answer);
             note_whole(desk, answer, Refused::Whole(text))
         }
         Err(fault) => note_whole(desk, Err(fault), Refused::TooLong),
@@ -76,32 +75,28 @@ fn replace_part_by<B: BreakOff>(
     }
 }
 
-/// Replaces a part of the script by what was typed after a line. Keeps it if it has a fault; `refused` has it if it is refused.
+/// Replaces a part of the script by what was typed. Keeps it if it has a fault.
 fn replace_part_kept<B: BreakOff>(
-    alloc: Global,
-    refused: &mut Option<RefusedSource>,
+    attempt: Attempt<'_>,
     desk: &mut Desk,
     bench: &mut Bench,
-    line: &str,
     part: Part<'_>,
     typed: Vec<u8>,
     break_off: &mut B,
 ) -> Result<(), EditFault>
     ensures { IsKeptPart result (view_part part.entry) typed.items (contents_of bench.old) (state_of desk.old) (contents_of bench.new) (state_of desk.new) }
 {
-    let held = HeldPart::copy_of(alloc, part)?;
-    let answer = replace_part_by(alloc, desk, bench, part, &typed, break_off);
-    *refused = refused_source(alloc, Origin::Block(line), &typed, answer);
+    let held = HeldPart::copy_of(attempt.alloc, part)?;
+    let answer = replace_part_by(attempt.alloc, desk, bench, part, &typed, break_off);
+    attempt.note(&typed, answer);
     note_part(desk, answer, held, typed)
 }
 
-/// Makes the edit of a part by the block after a line, and returns the reply. `refused` has the text of the block if it is refused.
+/// Makes the edit of a part by a block, and returns the reply.
 fn edit_part<B: BreakOff>(
-    alloc: Global,
-    refused: &mut Option<RefusedSource>,
+    attempt: Attempt<'_>,
     desk: &mut Desk,
     bench: &mut Bench,
-    line: &str,
     part: Part<'_>,
     block: BlockText,
     break_off: &mut B,
@@ -109,13 +104,12 @@ fn edit_part<B: BreakOff>(
     ensures { (lines : List (List ℕ)) → HoldsText block lines → Answers bench.old desk.old (part_command (Some (view_part part.entry)) (made_text lines) (text_of_block lines)) result bench.new desk.new }
 {
     match text_of(block) {
-        Ok(text) => edit_reply(replace_part_kept(
-            alloc, refused, desk, bench, line, part, text, break_off,
-        )),
+        Ok(text) => edit_reply(replace_part_kept(attempt, desk, bench, part, text, break_off)),
         Err(fault) => edit_reply(note_whole(desk, Err(fault), Refused::TooLong)),
     }
 }
 
+/// Makes the edit of the part that a line names by a block, and returns the reply. A line that names none is refused.
 fn edit_named<B: BreakOff>(
     alloc: Global,
     refused: &mut Option<RefusedSource>,
@@ -127,8 +121,13 @@ fn edit_named<B: BreakOff>(
 ) -> Reply
     ensures { (lines : List (List ℕ)) → HoldsText block lines → Answers bench.old desk.old (part_edit line.now lines) result bench.new desk.new }
 {
+    let attempt = Attempt {
+        alloc,
+        origin: Origin::Block(line),
+        refused,
+    };
     match part_of(line) {
-        Some(part) => edit_part(alloc, refused, desk, bench, line, part, block, break_off),
+        Some(part) => edit_part(attempt, desk, bench, part, block, break_off),
         None => Reply::Fixed(BAD_COMMAND),
     }
 }
@@ -150,20 +149,6 @@ fn edit_kept<B: BreakOff>(
         Ok(None) => Reply::Fixed(BAD_COMMAND),
         Err(_) => edit_reply(Err(EditFault::OutOfMemory)),
     }
-}
-
-/// Makes the edit of `replace`, and returns the reply.
-fn replace_reply<B: BreakOff>(
-    alloc: Global,
-    refused: &mut Option<RefusedSource>,
-    desk: &mut Desk,
-    bench: &mut Bench,
-    block: BlockText,
-    break_off: &mut B,
-) -> Reply
-    ensures { (lines : List (List ℕ)) → HoldsText block lines → Answers bench.old desk.old (spec.EditWhole (made_text lines)) result bench.new desk.new }
-{
-    edit_reply(replace_by(alloc, refused, desk, bench, block, break_off))
 }
 
 /// Returns the reply to `families`, for the text of the families.
@@ -208,7 +193,14 @@ pub(crate) fn answer_block<B: BreakOff>(
 {
     match request {
         BlockRequest::Part(kept) => edit_kept(alloc, refused, desk, bench, kept, block, break_off),
-        BlockRequest::Whole => replace_reply(alloc, refused, desk, bench, block, break_off),
+        BlockRequest::Whole => {
+            let attempt = Attempt {
+                alloc,
+                origin: Origin::Block("replace"),
+                refused,
+            };
+            edit_reply(replace_by(attempt, desk, bench, block, break_off))
+        }
         BlockRequest::Families => families_of(alloc, bench, block),
     }
 }

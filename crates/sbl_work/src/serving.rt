@@ -8,7 +8,8 @@ ghost use Rattle.sbl_io.specs.HeldInput.{KeepsTime, Reading};
 ghost use Rattle.sbl_sessions.specs.{CommandViews.IsReply, Session.Ends};
 ghost use Rattle.sbl_history.specs.Desks.{state_of};
 ghost use Rattle.sbl_work.specs.Answering.{AnswersLine, BreaksLine, Works, WorksOnBench};
-ghost use Rattle.sbl_work.specs.ReplyViews.{IsFileAnswer};
+ghost use Rattle.sbl_work.specs.Commands.{alone_command};
+ghost use Rattle.sbl_work.specs.ReplyViews.{IsFileAnswer, IsWorkAnswer, view_file};
 ghost use Rattle.sbl_work.specs.Serving as serving;
 ghost use Rattle.sbl_work.specs.Serving.{with_prompt};
 ghost use Rattle.sbl_work.specs.WholeWork.{WorksOver, status_of};
@@ -17,6 +18,7 @@ use crate::answers::answer_line;
 use crate::appending::Added;
 use crate::fault_replies::faults_by_file;
 use crate::files::{OpenFault, Paths, Texts, append, open, save};
+use crate::folder::Folder;
 use crate::observing::{Observer, RefusedSource};
 use crate::parts::answer_block;
 use crate::replies::edit_reply;
@@ -45,18 +47,6 @@ const PROMPT: &[u8] = b"> ";
 /// What is written if an allocation fails for the line that says why there is no desk.
 const NO_MEMORY: &[u8] = b"snowbench: 49 OutOfMemory\n";
 
-/// The files of work, the bytes that were read last from the file of the script, the words that were added, what is kept for
-/// questions about uses, and the text that the last request was refused for.
-#[derive(Drop)]
-struct Folder<'a, F> {
-    files: &'a F,
-    paths: &'a Paths,
-    seen: Vec<u8>,
-    added: Added,
-    kept: KeptTakes,
-    refused: Option<RefusedSource>,
-}
-
 /// Writes the text of the current script to a file.
 fn save_text<F: Files + AllocGlobal>(
     folder: &mut Folder<'_, F>,
@@ -68,125 +58,65 @@ fn save_text<F: Files + AllocGlobal>(
     save(folder.files, folder.paths, &mut folder.seen, path, text)
 }
 
+/// Makes the edit or the report that a line without a block asks for, with what its file has, and returns the reply.
+fn answer_with<F: Files + AllocGlobal>(
+    folder: &mut Folder<'_, F>,
+    desk: &mut Desk,
+    bench: &mut Bench,
+    line: &[u8],
+    file: Option<&[u8]>,
+) -> Reply
+    ensures { IsWorkAnswer (contents_of bench.old) (state_of desk.old) (alone_command (view_file file.entry) line.now) result (contents_of bench.new) (state_of desk.new) }
+{
+    let mut stop = StopFile::new(folder.files, folder.paths);
+    answer_line(
+        folder.files.alloc(),
+        desk,
+        bench,
+        &mut folder.kept,
+        line,
+        file,
+        &mut stop,
+    )
+}
+
 /// Makes the edit or the report that a line without a block asks for, and returns the reply.
 fn answer_alone<F: Files + AllocGlobal>(
     folder: &mut Folder<'_, F>,
     desk: &mut Desk,
     bench: &mut Bench,
-    alloc: Global,
     line: &[u8],
 ) -> Reply
     ensures { IsFileAnswer (contents_of bench.old) (state_of desk.old) line.now result (contents_of bench.new) (state_of desk.new) }
 {
-    let mut stop = StopFile::new(folder.files, folder.paths);
+    let files = folder.files;
+    let paths = folder.paths;
+    let alloc = files.alloc();
     match request_of(line) {
-        Request::Reload => replace_by_file(
-            folder.files,
-            folder.paths,
-            &mut folder.seen,
-            &mut folder.refused,
-            desk,
-            bench,
-            folder.paths.script.as_str(),
-            &mut stop,
-        ),
-        Request::Families(path) => match read_file(folder.files, path) {
-            Ok(bytes) => answer_line(
-                alloc,
-                desk,
-                bench,
-                &mut folder.kept,
-                line,
-                Some(bytes.as_slice()),
-                &mut stop,
-            ),
-            Err(ReadFault::Unreadable) => answer_line(
-                alloc,
-                desk,
-                bench,
-                &mut folder.kept,
-                line,
-                None,
-                &mut stop,
-            ),
+        Request::Reload => replace_by_file(folder, desk, bench, paths.script.as_str()),
+        Request::Families(path) => match read_file(files, path) {
+            Ok(bytes) => answer_with(folder, desk, bench, line, Some(bytes.as_slice())),
+            Err(ReadFault::Unreadable) => answer_with(folder, desk, bench, line, None),
             Err(ReadFault::OutOfMemory) => edit_reply(Err(EditFault::OutOfMemory)),
         },
         Request::Save(path) => match save_text(folder, desk, bench, path) {
-            Ok(()) => answer_line(
-                alloc,
-                desk,
-                bench,
-                &mut folder.kept,
-                line,
-                Some(b"".as_slice()),
-                &mut stop,
-            ),
+            Ok(()) => answer_with(folder, desk, bench, line, Some(b"".as_slice())),
             Err(SaveFault::OutOfMemory) => edit_reply(Err(EditFault::OutOfMemory)),
-            Err(_) => answer_line(alloc, desk, bench, &mut folder.kept, line, None, &mut stop),
+            Err(_) => answer_with(folder, desk, bench, line, None),
         },
-        Request::Append(path) => match append(
-            folder.files,
-            folder.paths,
-            &mut folder.added,
-            bench,
-            path,
-        ) {
-            Ok(lines) => answer_line(
-                alloc,
-                desk,
-                bench,
-                &mut folder.kept,
-                line,
-                Some(lines.as_slice()),
-                &mut stop,
-            ),
+        Request::Append(path) => match append(folder, bench, path) {
+            Ok(lines) => answer_with(folder, desk, bench, line, Some(lines.as_slice())),
             Err(SaveFault::OutOfMemory) => edit_reply(Err(EditFault::OutOfMemory)),
-            Err(_) => answer_line(alloc, desk, bench, &mut folder.kept, line, None, &mut stop),
+            Err(_) => answer_with(folder, desk, bench, line, None),
         },
-        Request::Replace(path) => replace_by_file(
-            folder.files,
-            folder.paths,
-            &mut folder.seen,
-            &mut folder.refused,
-            desk,
-            bench,
-            path,
-            &mut stop,
-        ),
-        Request::MarkStems(path) => mark_by_file(folder.files, alloc, desk, bench, path),
-        Request::Approve(path) => approve_by_file(folder.files, folder.paths, bench, path),
-        Request::Words => words_by_file(
-            folder.files,
-            folder.paths,
-            &mut folder.added,
-            alloc,
-            desk,
-            bench,
-            &mut stop,
-        ),
-        Request::TokensOf(path) => tokens_by_file(folder.files, alloc, path),
-        Request::FaultsOf(path) => faults_by_file(folder.files, alloc, bench, path),
-        _ => answer_line(alloc, desk, bench, &mut folder.kept, line, None, &mut stop),
+        Request::Replace(path) => replace_by_file(folder, desk, bench, path),
+        Request::MarkStems(path) => mark_by_file(files, alloc, desk, bench, path),
+        Request::Approve(path) => approve_by_file(files, paths, bench, path),
+        Request::Words => words_by_file(folder, desk, bench),
+        Request::TokensOf(path) => tokens_by_file(files, alloc, path),
+        Request::FaultsOf(path) => faults_by_file(files, alloc, bench, path),
+        _ => answer_with(folder, desk, bench, line, None),
     }
-}
-
-/// Makes the edit or the report that a line without a block asks for, and returns the reply. Notes if it removed a word of the start.
-fn answer_noted<F: Files + AllocGlobal>(
-    folder: &mut Folder<'_, F>,
-    desk: &mut Desk,
-    bench: &mut Bench,
-    alloc: Global,
-    line: &[u8],
-) -> Reply
-    ensures { IsFileAnswer (contents_of bench.old) (state_of desk.old) line.now result (contents_of bench.new) (state_of desk.new) }
-{
-    let before = bench.len();
-    let is_of_start = folder.added.is_of_start(bench, line);
-    let reply = answer_alone(folder, desk, bench, alloc, line);
-    if bench.len() < before && is_of_start {
-        folder.added.note_removed();
-    }
-    reply
 }
 
 /// Makes the edit or the report that the current line asks for, with the block after it if it asks for one, and returns the
@@ -203,7 +133,14 @@ fn answer<F: Files + AllocGlobal, R: Source + Drop>(
     ensures reading { Reading R.left R.tally lines.old lines.new result }
 {
     match block_request(lines.alloc(), lines.line()) {
-        None => Ok(answer_noted(folder, desk, bench, lines.alloc(), lines.line())),
+        None => {
+            let line = lines.line();
+            let before = bench.len();
+            let is_of_start = folder.added.is_of_start(bench, line);
+            let reply = answer_alone(folder, desk, bench, line);
+            folder.added.note_answered(bench, before, is_of_start);
+            Ok(reply)
+        }
         Some(request) => {
             let block = read_block(lines)?;
             let mut stop = StopFile::new(folder.files, folder.paths);

@@ -8,9 +8,9 @@ ghost use Rattle.sbl_work.specs.Commands as spec;
 ghost use Rattle.sbl_work.specs.Replies.{RereadsWords, words_text};
 ghost use Rattle.sbl_work.specs.ReplyViews.{IsWorkAnswer, view_file};
 
-use crate::appending::Added;
-use crate::files::Paths;
+use crate::folder::Folder;
 use crate::replies::{NO_FILE, NOT_TEXT, edit_reply};
+use crate::stopping::StopFile;
 use sbl_bench::{Bench, BreakOff, EditFault};
 use sbl_history::Desk;
 use sbl_input::{LoadFault, words_in};
@@ -76,38 +76,36 @@ pub(crate) fn words_reply<B: BreakOff>(
 ) -> Reply
     ensures { IsWorkAnswer (contents_of bench.old) (state_of desk.now) (spec.with_file spec.Words (view_file file.entry)) result (contents_of bench.new) (state_of desk.now) }
 {
-    match file {
-        Some(bytes) => {
-            reread_reply(reread_words(alloc, bench, bytes, desk.may_break(), break_off))
-        },
-        None => Reply::Fixed(NO_FILE),
-    }
+    let Some(bytes) = file else {
+        return Reply::Fixed(NO_FILE);
+    };
+    reread_reply(reread_words(alloc, bench, bytes, desk.may_break(), break_off))
 }
 
 /// Reads the file of words again, and returns the reply to `words`. Notes that no word is added then.
-pub(crate) fn words_by_file<F: Files + AllocGlobal, B: BreakOff>(
-    files: &F,
-    paths: &Paths,
-    added: &mut Added,
-    alloc: Global,
+pub(crate) fn words_by_file<F: Files + AllocGlobal>(
+    folder: &mut Folder<'_, F>,
     desk: &Desk,
     bench: &mut Bench,
-    break_off: &mut B,
 ) -> Reply
     ensures { (file : Option (List ℕ)) × IsWorkAnswer (contents_of bench.old) (state_of desk.now) (spec.with_file spec.Words file) result (contents_of bench.new) (state_of desk.now) }
 {
+    let files = folder.files;
+    let paths = folder.paths;
+    let alloc = files.alloc();
+    let mut stop = StopFile::new(files, paths);
     let Some(path) = &paths.words else {
-        return words_reply(alloc, desk, bench, None, break_off);
+        return words_reply(alloc, desk, bench, None, &mut stop);
     };
     match read_file(files, path.as_str()) {
         Ok(bytes) => {
-            let answer = reread_words(alloc, bench, &bytes, desk.may_break(), break_off);
+            let answer = reread_words(alloc, bench, &bytes, desk.may_break(), &mut stop);
             if answer.is_ok() {
-                added.note_read(bench.len());
+                folder.added.note_read(bench.len());
             }
             reread_reply(answer)
         }
-        Err(ReadFault::Unreadable) => words_reply(alloc, desk, bench, None, break_off),
+        Err(ReadFault::Unreadable) => words_reply(alloc, desk, bench, None, &mut stop),
         Err(ReadFault::OutOfMemory) => edit_reply(Err(EditFault::OutOfMemory)),
     }
 }

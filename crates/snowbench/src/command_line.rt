@@ -2,7 +2,7 @@
 ghost use Rattle.std.specs.Prelude.{◌≡◌, IfOk, None, Some, codes, false, map, option_map};
 ghost use Rattle.std.specs.String.{string_bytes};
 ghost use Rattle.clap.specs.Walk.{rule_of};
-ghost use Rattle.clap.specs.Words.{Text, app_of, first_value, found_of, new_rule, one_text};
+ghost use Rattle.clap.specs.Words.{Text, app_of, first_value, found_of, new_rule, one_text, with_rule};
 ghost use Rattle.snowbench.specs.CommandLine.{IsFlag, IsGiven, IsMissing, IsVerb, LacksFlag, check_app, compare_app, flag, flag_in, program, required_rule, run_app, session_app, stem_app, filter_app, value_in, value_rule, verb_app, verb_and_external, work_app};
 
 use clap::error::ErrorKind;
@@ -287,6 +287,22 @@ fn required_file<'a>(alloc: Global, name: &'a str, help: &'a str) -> Arg<'a>
     Arg::new(alloc, name).required(true).help(help)
 }
 
+/// Returns the definition of a subcommand with this file of the script and the file WORDS, which may be missing.
+fn words_command<'a>(
+    alloc: Global,
+    name: &'a str,
+    about: &'a str,
+    help: &'a str,
+    script: Arg<'a>,
+) -> Result<Command<'a>, AllocError>
+    requires here { script.global ≡ false }
+    ensures { IfOk result (λ c. app_of c ≡ with_rule (with_rule (verb_app name.entry.now) (rule_of script.entry)) (new_rule (codes "WORDS"))) }
+{
+    verb_command(alloc, name, about, help)?
+        .arg(script)?
+        .arg(file_arg(alloc, "WORDS", WORDS_HELP))
+}
+
 /// Returns the definition of an option with one value.
 fn value_arg<'a>(alloc: Global, name: &'a str, value: &'a str, help: &'a str) -> Arg<'a>
     ensures rule { rule_of result ≡ value_rule name.entry.now }
@@ -312,9 +328,8 @@ fn flag_arg<'a>(alloc: Global, name: &'a str, help: &'a str) -> Arg<'a>
 fn run_command<'a>(alloc: Global) -> Result<Command<'a>, AllocError>
     ensures { IfOk result (λ c. app_of c ≡ run_app) }
 {
-    verb_command(alloc, "run", ABOUT_RUN, HELP_RUN)?
-        .arg(required_file(alloc, "SCRIPT", SCRIPT_HELP))?
-        .arg(file_arg(alloc, "WORDS", WORDS_HELP))?
+    let script = required_file(alloc, "SCRIPT", SCRIPT_HELP);
+    words_command(alloc, "run", ABOUT_RUN, HELP_RUN, script)?
         .arg(file_arg(alloc, "COMMANDS", "The file of the commands"))?
         .arg(flag_arg(alloc, "strict", STRICT_HELP))?
         .arg(value_arg(alloc, "as", "FORM", FORM_HELP))
@@ -340,10 +355,12 @@ fn stem_command<'a>(alloc: Global) -> Result<Command<'a>, AllocError>
 fn filter_command<'a>(alloc: Global) -> Result<Command<'a>, AllocError>
     ensures { IfOk result (λ c. app_of c ≡ filter_app) }
 {
-    verb_command(alloc, "filter", ABOUT_FILTER, HELP_FILTER)?
-        .arg(file_arg(alloc, "SCRIPT", SCRIPT_HELP))?
-        .arg(file_arg(alloc, "WORDS", WORDS_HELP))?
-        .arg(flag_arg(alloc, "places", PLACES_HELP))
+    let script = file_arg(alloc, "SCRIPT", SCRIPT_HELP);
+    words_command(alloc, "filter", ABOUT_FILTER, HELP_FILTER, script)?.arg(flag_arg(
+        alloc,
+        "places",
+        PLACES_HELP,
+    ))
 }
 
 /// Returns the definition of `check`: a subcommand with the flag `--places` and the files SCRIPT, WORDS and STEMS. Each file
@@ -351,9 +368,8 @@ fn filter_command<'a>(alloc: Global) -> Result<Command<'a>, AllocError>
 fn check_command<'a>(alloc: Global) -> Result<Command<'a>, AllocError>
     ensures { IfOk result (λ c. app_of c ≡ check_app) }
 {
-    verb_command(alloc, "check", ABOUT_CHECK, HELP_CHECK)?
-        .arg(file_arg(alloc, "SCRIPT", SCRIPT_HELP))?
-        .arg(file_arg(alloc, "WORDS", WORDS_HELP))?
+    let script = file_arg(alloc, "SCRIPT", SCRIPT_HELP);
+    words_command(alloc, "check", ABOUT_CHECK, HELP_CHECK, script)?
         .arg(file_arg(
             alloc,
             "STEMS",
@@ -378,9 +394,8 @@ fn compare_command<'a>(alloc: Global) -> Result<Command<'a>, AllocError>
 fn work_command<'a>(alloc: Global) -> Result<Command<'a>, AllocError>
     ensures { IfOk result (λ c. app_of c ≡ work_app) }
 {
-    verb_command(alloc, "work", ABOUT_WORK, HELP_WORK)?
-        .arg(required_file(alloc, "SCRIPT", SCRIPT_HELP))?
-        .arg(file_arg(alloc, "WORDS", WORDS_HELP))?
+    let script = required_file(alloc, "SCRIPT", SCRIPT_HELP);
+    words_command(alloc, "work", ABOUT_WORK, HELP_WORK, script)?
         .arg(flag_arg(alloc, "rows", ROWS_HELP))?
         .arg(flag_arg(alloc, "text", "Answers in text, for people"))?
         .arg(value_arg(alloc, "from", "TEXT", FROM_HELP))?

@@ -7,7 +7,7 @@ ghost use Rattle.snowbench.specs.FileRuns.{ChecksFiles, HasFilesReasons, IsFiles
 use crate::script_files::{
     FileFault, FilesFault, FilesInput, open_files, overlong_line, parse_file,
 };
-use sbl_batch::check_observed;
+use sbl_batch::{CheckedLists, check_observed};
 use sbl_bench::{Progress, WordKeys};
 use sbl_input::LoadFault;
 use sbl_io::{Lines, ServeFault, Sink, Source, write_all};
@@ -113,7 +113,11 @@ pub fn check_files<W: Sink, P: Progress>(
         script.discard();
         return Err(FilesFault::Stems(fault));
     }
-    let checked = check_observed(alloc, &script, input.words, stems, writer, progress);
+    let lists = CheckedLists {
+        words: input.words,
+        expected: stems,
+    };
+    let checked = check_observed(alloc, &script, lists, writer, progress);
     script.discard();
     match checked {
         Ok(differences) => Ok(differences),

@@ -13,7 +13,7 @@ pub use command_line::{Face, Options, Verb, Wanted, read_words};
 pub use file_filter::filter_file;
 pub use file_runs::{check_files, run_files, stem_files};
 pub use listing::{ListKind, list_files};
-pub use program::{answer, run, run_watched, run_with};
+pub use program::{answer, run, run_with};
 pub use sbl_batch::check;
 pub use sbl_bench::{NoProgress, Progress, WordKeys};
 pub use sbl_input::{LoadFault, load, load_with_keys};

@@ -13,7 +13,7 @@ ghost use Rattle.snowbench.specs.WholeCheck.{ChecksLists, IsWholeCheck, ReadsExp
 ghost use Rattle.snowbench.specs.WholeSession.{IsWholeSession};
 
 use crate::command_line::{Verb, Wanted};
-use sbl_batch::{check_observed, filter};
+use sbl_batch::{CheckedLists, check_observed, filter};
 use sbl_bench::{Progress, WordKeys};
 use sbl_input::{LoadFault, load_observed, load_rows, read_script};
 use sbl_io::{Lines, ServeFault, Sink, Source, write_all};
@@ -60,7 +60,14 @@ pub fn run<R: Source + Drop, W: Sink, E: Sink>(
     ensures errors_in_time { WritesInTime E.tally errors.old errors.new }
 {
     match Lines::new(alloc, reader) {
-        Ok(mut lines) => run_with(wanted, WordKeys::constant(), &mut lines, writer, errors),
+        Ok(mut lines) => run_with(
+            wanted,
+            WordKeys::constant(),
+            &mut lines,
+            writer,
+            errors,
+            &mut NoWatch {},
+        ),
         Err(_) => {
             // The status reports the fault even if its line cannot be written.
             let _ = write_all(errors, NO_MEMORY.as_bytes());
@@ -70,27 +77,9 @@ pub fn run<R: Source + Drop, W: Sink, E: Sink>(
 }
 
 /// Does what `run` does, over lines and with keys: does what is wanted, reads `lines`, writes to `writer`, and returns the exit status.
-/// The keys are those of the hash by which words are found, as in `Bench::open_with_keys`.
-pub fn run_with<R: Source + Drop, W: Sink, E: Sink>(
-    wanted: &Wanted,
-    keys: WordKeys,
-    lines: &mut Lines<R>,
-    writer: &mut W,
-    errors: &mut E,
-) -> u8
-    ensures runs { lines.old.fault ≡ None → Runs R.left R.tally W.held W.tally E.held E.tally wanted.now lines.old lines.new writer.old writer.new errors.old errors.new result }
-    ensures status { result ≤ 1 }
-    ensures bound { reads_bound R.tally lines.new ≡ reads_bound R.tally lines.old }
-    ensures reads_in_time { KeepsTime R.tally lines.old lines.new }
-    ensures writes_in_time { WritesInTime W.tally writer.old writer.new }
-    ensures errors_in_time { WritesInTime E.tally errors.old errors.new }
-{
-    run_watched(wanted, keys, lines, writer, errors, &mut NoWatch {})
-}
-
-/// Does what `run_with` does. `watch` sees each reply of a session and each edit that it refuses, as by `serve_watched`, and for `session`
-/// and `check` how many words were run.
-pub fn run_watched<R: Source + Drop, W: Sink, E: Sink, S: Watch + Progress>(
+/// The keys are those of the hash by which words are found, as in `Bench::open_with_keys`. `watch` sees each reply of a session and each
+/// edit that it refuses, as by `serve_watched`, and for `session` and `check` how many words were run.
+pub fn run_with<R: Source + Drop, W: Sink, E: Sink, S: Watch + Progress>(
     wanted: &Wanted,
     keys: WordKeys,
     lines: &mut Lines<R>,
@@ -136,7 +125,7 @@ fn line_of_fault(fault: LoadFault) -> InlineText<MAX_FAULT_LINE>
 }
 
 /// Does what the command line asks for with the input of `lines`, and returns the number of differences; only `check` has some. `run` says
-/// what each subcommand reads and writes, and `run_watched` what `watch` sees. What was written before a fault stays in `writer`.
+/// what each subcommand reads and writes, and `run_with` what `watch` sees. What was written before a fault stays in `writer`.
 pub fn answer<R: Source + Drop, W: Sink, S: Watch + Progress>(
     wanted: &Wanted,
     keys: WordKeys,
@@ -239,7 +228,11 @@ fn check_lists<R: Source + Drop, W: Sink, P: Progress>(
 {
     let words = read_word_block(lines)?;
     let expected = read_expected(lines)?;
-    check_observed(lines.alloc(), script, &words, &expected, writer, progress)
+    let lists = CheckedLists {
+        words: &words,
+        expected: &expected,
+    };
+    check_observed(lines.alloc(), script, lists, writer, progress)
 }
 
 /// Reads the lines up to a line `.` and returns them, each as `push_line` appends it. Returns `Cut` if the input ends

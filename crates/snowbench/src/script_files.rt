@@ -48,12 +48,12 @@ pub enum FilesFault {
     Run(ServeFault),
 }
 
-impl FilesFault {
+impl From<FilesFault> for LoadFault {
+    ghost from_gives = { λ fault cause. cause ≡ spec.cause_of fault };
+
     /// Returns the fault without what has it.
-    pub fn cause(self) -> LoadFault
-        ensures { result ≡ spec.cause_of self }
-    {
-        match self {
+    fn from(fault: FilesFault) -> LoadFault {
+        match fault {
             FilesFault::Script(placed) | FilesFault::Words(placed) | FilesFault::Stems(placed) => {
                 placed.fault
             }

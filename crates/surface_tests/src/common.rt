@@ -3,16 +3,7 @@
 use sbl_script::{Script, ScriptFault};
 use std::alloc::{AllocError, Global};
 use std::fmt::Display;
-
-/// Three routines in backward mode. They remove plural endings, and then an `e`.
-pub(crate) const PLURALS: &str = "externals ( stem )
-routines ( tail last sib )
-backwardmode (
-  define sib as ( 'x' or 's' )
-  define tail as ( [substring] among ( 's' (delete) 'es' sib (delete) ) )
-  define last as ( ['e'] delete )
-)
-define stem as ( backwards ( do tail do ( test 'e' last ) ) )";
+use test_support::PLURALS;
 
 /// Two groupings. The second is built from the first.
 pub(crate) const GROUPINGS: &str = "groupings ( v w )

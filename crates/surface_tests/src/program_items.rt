@@ -1,7 +1,7 @@
 //! snowbench: what the words of a command line want, and what the program does.
 
 use crate::common::{PREFIXES, field, field_lines, number};
-use snowbench::{Device, Lines, Verb, Wanted, WordKeys, read_words, run, run_with};
+use snowbench::{Device, Lines, NoWatch, Verb, Wanted, WordKeys, read_words, run, run_with};
 use std::alloc::{AllocError, Global};
 use std::process::Abort;
 use std::test::Fail;
@@ -97,6 +97,7 @@ fn run_over_lines(alloc: Global, wanted: &Wanted, input: &[u8]) -> Result<Ended,
         &mut lines,
         &mut Device::new(&mut text),
         &mut Device::new(&mut errors),
+        &mut NoWatch {},
     );
     Ok(Ended {
         text,

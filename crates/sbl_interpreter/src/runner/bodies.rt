@@ -1,4 +1,4 @@
-//! Runs the bodies of loops.
+//! Runs the bodies of loops and of routines.
 
 ghost use Rattle.std.specs.Prelude.{◌≤◌, IfOk};
 ghost use Rattle.sbl_run_state.specs.Endings.{Follows};
@@ -11,8 +11,8 @@ use sbl_code::Instruction;
 use sbl_run_state::{Halt, State, Tables};
 
 impl<'a, T: Tables> Runner<'a, T> {
-    /// Does what `run_from` does, for the body of a loop. Most tries of a loop fail at the first instruction, and their run ends
-    /// there: it is done here, so that they do not pay for the frame of `run_from`.
+    /// Does what `run_from` does, for the body of a loop or of a routine. Many runs of a body end after its first instruction: it is
+    /// done here, so that they do not pay for the frame of `run_from`.
     #[cycle(run)]
     #[inline(always)]
     pub(super) fn run_body(&self, body: &Instruction, state: &mut State) -> Result<bool, Halt>
@@ -50,6 +50,18 @@ impl<'a, T: Tables> Runner<'a, T> {
                 }
                 // Only for its contract: the cursor lies in the text, so to put it back to here changes nothing.
                 state.place();
+                self.run_exit(fail, state)
+            }
+            Instruction::Act {
+                cost,
+                action,
+                next,
+                fail,
+            } => {
+                state.pay_for(*cost)?;
+                if state.act(&self.code.program().groupings, self.mode, action)? {
+                    return self.run_exit(next, state);
+                }
                 self.run_exit(fail, state)
             }
             Instruction::LeftBracket { cost, next } => {

@@ -16,6 +16,24 @@ use crate::state::numbers::natural;
 use sbl_ast::Mode;
 use sbl_program::{Action, Arithmetic, CharacterClass};
 
+/// Does something with the value of an expression. Returns a fault if the expression has one.
+macro_rules! at_value {
+    ($self:ident, $mode:ident, $expression:ident; $value:ident => $then:expr) => {{
+        let $value = $self.value_here($mode, $expression)?;
+        Ok($then)
+    }};
+}
+
+// The signal t of a command that has no signal of its own.
+#[inline(always)]
+fn then_t(done: Result<(), Halt>) -> Result<bool, Halt>
+    ensures follows { (new : State) (ending : Ending) → Leads done new ending → Follows result new ending }
+    ensures same_steps { (before after : ℕ) → IfOk done (λ _. after ≡ before) → IfOk result (λ _. after ≡ before) }
+{
+    done?;
+    Ok(true)
+}
+
 impl State {
     /// Does a command without a command inside, after its step is paid, and returns its signal. `groupings` has the
     /// class of each grouping.
@@ -68,24 +86,22 @@ impl State {
         }
     }
 
-    // `hop`: moves over as many characters as an expression says. Returns a fault if the expression has one.
-    #[inline(never)]
-    fn hop_by(&mut self, mode: Mode, expression: &Arithmetic) -> Result<bool, Halt>
-        ensures follows { Follows result self.new (continue_with (value (view_number expression.now) mode self.old) self.old (λ z. hop (natural z) mode self.old)) }
-        ensures same_steps { IfOk result (λ _. self.new.steps ≡ self.old.steps) }
-    {
-        let number = self.value_here(mode, expression)?;
-        Ok(self.hop(mode, natural(number)))
-    }
-
     // `atmark`: returns whether the cursor is at the value of an expression. Returns a fault if the expression has one.
     #[inline(never)]
     fn is_at_value(&mut self, mode: Mode, expression: &Arithmetic) -> Result<bool, Halt>
         ensures follows { Follows result self.new (continue_with (value (view_number expression.now) mode self.old) self.old (λ z. at_mark (natural z) self.old)) }
         ensures same_steps { IfOk result (λ _. self.new.steps ≡ self.old.steps) }
     {
-        let place = self.value_here(mode, expression)?;
-        Ok(self.is_at_mark(natural(place)))
+        at_value!(self, mode, expression; place => self.is_at_mark(natural(place)))
+    }
+
+    // `hop`: moves over as many characters as an expression says. Returns a fault if the expression has one.
+    #[inline(never)]
+    fn hop_by(&mut self, mode: Mode, expression: &Arithmetic) -> Result<bool, Halt>
+        ensures follows { Follows result self.new (continue_with (value (view_number expression.now) mode self.old) self.old (λ z. hop (natural z) mode self.old)) }
+        ensures same_steps { IfOk result (λ _. self.new.steps ≡ self.old.steps) }
+    {
+        at_value!(self, mode, expression; number => self.hop(mode, natural(number)))
     }
 
     // `tomark`: moves the cursor to the value of an expression. Returns a fault if the expression has one.
@@ -94,17 +110,6 @@ impl State {
         ensures follows { Follows result self.new (continue_with (value (view_number expression.now) mode self.old) self.old (λ z. to_mark (natural z) mode self.old)) }
         ensures same_steps { IfOk result (λ _. self.new.steps ≡ self.old.steps) }
     {
-        let place = self.value_here(mode, expression)?;
-        Ok(self.to_mark(mode, natural(place)))
+        at_value!(self, mode, expression; place => self.to_mark(mode, natural(place)))
     }
-}
-
-// The signal t of a command that has no signal of its own.
-#[inline(always)]
-fn then_t(done: Result<(), Halt>) -> Result<bool, Halt>
-    ensures follows { (new : State) (ending : Ending) → Leads done new ending → Follows result new ending }
-    ensures same_steps { (before after : ℕ) → IfOk done (λ _. after ≡ before) → IfOk result (λ _. after ≡ before) }
-{
-    done?;
-    Ok(true)
 }

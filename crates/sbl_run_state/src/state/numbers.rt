@@ -16,6 +16,17 @@ use sbl_ast::{Additive, Mode, Multiplicative};
 use sbl_program::{Addend, Arithmetic, Change, Multiplicand, Relation};
 use sbl_semantics::RunFault;
 
+/// The total after each of the others in turn, from a start on. `$next` is the total after one more.
+macro_rules! in_turn {
+    ($total:ident, $start:ident; $other:ident, $others:ident => $next:expr) => {{
+        let mut $total = $start;
+        for $other in $others {
+            $total = $next?;
+        }
+        Ok($total)
+    }};
+}
+
 impl State {
     /// Returns the value of an expression. Returns `Integer` if a number is out of range, and `Divide` if a divisor is
     /// zero.
@@ -53,9 +64,9 @@ impl State {
         ensures { result ≡ value (view_number expression.now) mode self.now }
     {
         match expression {
+            Arithmetic::Cursor => count_as_number(self.cursor),
             Arithmetic::Number(number) => count_as_number(*number as usize),
             Arithmetic::Integer(number) => Ok(self.integer(*number)),
-            Arithmetic::Cursor => count_as_number(self.cursor),
             _ => self.value(mode, expression),
         }
     }
@@ -65,11 +76,15 @@ impl State {
     fn sum(&self, mode: Mode, start: i32, others: &[Addend]) -> Result<i32, RunFault>
         ensures { result ≡ sums_to (map view_next_product others.now) (Ok start) mode self.now }
     {
-        let mut total = start;
-        for other in others {
-            total = self.sum_with(mode, total, other)?;
-        }
-        Ok(total)
+        in_turn!(total, start; other, others => self.sum_with(mode, total, other))
+    }
+
+    // Multiplies and divides by the other factors of a product.
+    #[cycle(value)]
+    fn product(&self, mode: Mode, start: i32, others: &[Multiplicand]) -> Result<i32, RunFault>
+        ensures { result ≡ scales_to (map view_next_factor others.now) (Ok start) mode self.now }
+    {
+        in_turn!(total, start; other, others => self.product_with(mode, total, other))
     }
 
     // Adds or subtracts one term.
@@ -79,18 +94,6 @@ impl State {
     {
         let number = self.value(mode, &other.number)?;
         sum_of(other.operator, total, number)
-    }
-
-    // Multiplies and divides by the other factors of a product.
-    #[cycle(value)]
-    fn product(&self, mode: Mode, start: i32, others: &[Multiplicand]) -> Result<i32, RunFault>
-        ensures { result ≡ scales_to (map view_next_factor others.now) (Ok start) mode self.now }
-    {
-        let mut total = start;
-        for other in others {
-            total = self.product_with(mode, total, other)?;
-        }
-        Ok(total)
     }
 
     // Multiplies or divides by one factor.

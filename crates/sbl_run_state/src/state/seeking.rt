@@ -7,10 +7,9 @@ ghost use Rattle.sbl_program.specs.Terms.{class_at};
 ghost use Rattle.sbl_semantics.specs.Control.{pay_first, seeks};
 ghost use Rattle.sbl_run_state.specs.Endings.{Follows};
 ghost use Rattle.sbl_program.specs.Actions.{test_grouping};
-ghost use Rattle.sbl_run_state.specs.Seeking.{count_before, seek_ending};
+ghost use Rattle.sbl_run_state.specs.Seeking.{count_before, mode_if, seek_ending};
 ghost use Rattle.sbl_semantics.specs.Fitting.{read_as};
 ghost use Rattle.sbl_semantics.specs.Touches.{with_touch};
-ghost use Rattle.sbl_ast.specs.declared.mode.Mode.TheVariants.{Forward, Backward};
 ghost use Rattle.sbl_semantics.specs.declared.touch.Touch.TheVariants.{Tested};
 ghost use Rattle.sbl_semantics.specs.inside.MoveParts.{next_is};
 ghost use Rattle.sbl_semantics.specs.State.{Signals, ahead, move_cursor, room};
@@ -71,20 +70,20 @@ impl State {
         true
     }
 
-    // Does what `seek_one` does, if the grouping is touched already.
-    #[inline(always)]
-    fn seek_touched(
+    // Does what `seek_one` does, if the grouping is touched already. Each mode has its own code, without a test of the mode.
+    #[inline(never)]
+    fn seek_touched<const FORWARD: bool>(
         &mut self,
         past: bool,
-        mode: Mode,
         classes: &[CharacterClass],
         number: usize,
         wanted: bool,
     ) -> Result<bool, Halt>
         requires { with_touch (Tested number) self.old.touched ≡ self.old.touched }
-        ensures follows { Follows result self.new (seeks (suc self.old.steps) past (pay_first (test_grouping wanted (class_at (map members classes.now) number) number)) mode self.old) }
+        ensures follows { Follows result self.new (seeks (suc self.old.steps) past (pay_first (test_grouping wanted (class_at (map members classes.now) number) number)) (mode_if FORWARD) self.old) }
         ensures no_more { IfOk result (λ _. self.new.steps ≤ self.old.steps) }
     {
+        let mode = mode_if(FORWARD);
         let part = self.part_ahead(mode);
         let len = part.len();
         let before = count_before(mode, part, classes, number, wanted);
@@ -94,38 +93,6 @@ impl State {
             return Err(Halt::Steps);
         }
         Ok(self.seek_over(past, mode, before, len))
-    }
-
-    // Does what `seek_touched` does, forwards.
-    #[inline(never)]
-    fn seek_forward(
-        &mut self,
-        past: bool,
-        classes: &[CharacterClass],
-        number: usize,
-        wanted: bool,
-    ) -> Result<bool, Halt>
-        requires { with_touch (Tested number) self.old.touched ≡ self.old.touched }
-        ensures follows { Follows result self.new (seeks (suc self.old.steps) past (pay_first (test_grouping wanted (class_at (map members classes.now) number) number)) Forward self.old) }
-        ensures no_more { IfOk result (λ _. self.new.steps ≤ self.old.steps) }
-    {
-        self.seek_touched(past, Mode::Forward, classes, number, wanted)
-    }
-
-    // Does the same backwards.
-    #[inline(never)]
-    fn seek_backward(
-        &mut self,
-        past: bool,
-        classes: &[CharacterClass],
-        number: usize,
-        wanted: bool,
-    ) -> Result<bool, Halt>
-        requires { with_touch (Tested number) self.old.touched ≡ self.old.touched }
-        ensures follows { Follows result self.new (seeks (suc self.old.steps) past (pay_first (test_grouping wanted (class_at (map members classes.now) number) number)) Backward self.old) }
-        ensures no_more { IfOk result (λ _. self.new.steps ≤ self.old.steps) }
-    {
-        self.seek_touched(past, Mode::Backward, classes, number, wanted)
     }
 
     /// Tests the grouping with this number at the cursor and further on, up to the first t. The cursor stays after the
@@ -147,9 +114,21 @@ impl State {
         }
         self.touch_grouping(number)?;
         match mode {
-            Mode::Forward => self.seek_forward(past, classes, number, wanted),
-            Mode::Backward => self.seek_backward(past, classes, number, wanted),
+            Mode::Forward => self.seek_touched::<true>(past, classes, number, wanted),
+            Mode::Backward => self.seek_touched::<false>(past, classes, number, wanted),
         }
+    }
+}
+
+// Returns Forward if true, else Backward.
+#[inline(always)]
+fn mode_if(forward: bool) -> Mode
+    ensures { result ≡ mode_if forward }
+{
+    if forward {
+        Mode::Forward
+    } else {
+        Mode::Backward
     }
 }
 

@@ -16,6 +16,17 @@ use sbl_semantics::Event;
 use std::alloc::AllocError;
 use std::mem;
 
+/// Inserts a string at the cursor. The first flag says whether the cursor ends to the right of it forwards, the second
+/// one whether it does backwards.
+macro_rules! put_in {
+    ($self:ident, $mode:ident, $term:ident; $forward:literal, $backward:literal) => {
+        match $mode {
+            Mode::Forward => $self.put_in($forward, $term),
+            Mode::Backward => $self.put_in($backward, $term),
+        }
+    };
+}
+
 impl State {
     /// `[`
     pub fn left_bracket(&mut self, mode: Mode)
@@ -151,10 +162,7 @@ impl State {
         ensures leads { Leads result self.new (insert (characters (view_text term.now) self.old) mode self.old) }
         ensures same_steps { IfOk result (λ _. self.new.steps ≡ self.old.steps) }
     {
-        match mode {
-            Mode::Forward => self.put_in(true, term),
-            Mode::Backward => self.put_in(false, term),
-        }
+        put_in!(self, mode, term; true, false)
     }
 
     /// `attach S`. Returns the same errors as `insert`.
@@ -163,10 +171,7 @@ impl State {
         ensures leads { Leads result self.new (attach (characters (view_text term.now) self.old) mode self.old) }
         ensures same_steps { IfOk result (λ _. self.new.steps ≡ self.old.steps) }
     {
-        match mode {
-            Mode::Forward => self.put_in(false, term),
-            Mode::Backward => self.put_in(true, term),
-        }
+        put_in!(self, mode, term; false, true)
     }
 }
 

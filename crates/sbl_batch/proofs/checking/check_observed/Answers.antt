@@ -9,7 +9,7 @@ use Rattle.sbl_batch.proofs.checking.check_observed.Goals.{then-branch, else-bra
 pub loop-word-init : goal.loop-word-init
 loop-word-init g c = record {
   made = search rules;
-  compared = compared_first (source_of c.args.script.now) c.args.words.now c.args.expected.now (g.W.Sink.held c.args.writer.now);
+  compared = compared_first (source_of c.args.script.now) c.args.lists.words.now c.args.lists.expected.now (g.W.Sink.held c.args.writer.now);
   steady = search rules;
   writes = search rules;
   rested = search rules;

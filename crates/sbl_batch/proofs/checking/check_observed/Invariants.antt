@@ -8,11 +8,11 @@ use Rattle.sbl_batch.proofs.checking.check_observed.Given as goal
 abbrev pub invariant-loop-word : goal.invariant-loop-word
 invariant-loop-word g l = record {
   made : IsLinkedMachineOf l.machine (source_of l.script);
-  compared : Progress (source_of l.script) l.words l.expected l.words_left l.expected_left (l.number + 1) l.differences (g.W.Sink.held l.fn.writer) (g.W.Sink.held l.writer);
+  compared : Progress (source_of l.script) l.lists.words.now l.lists.expected.now l.words_left l.expected_left (l.number + 1) l.differences (g.W.Sink.held l.fn.writer) (g.W.Sink.held l.writer);
   steady : (g.W.Sink.tally l.writer).failures ≡ (g.W.Sink.tally l.fn.writer).failures;
   writes : WritesInTime g.W.Sink.tally l.fn.writer l.writer;
   rested : (g.W.Sink.tally l.fn.writer).interruptions ≡ 0 → (g.W.Sink.tally l.writer).interruptions ≡ 0;
-  numbered : l.number + length l.words_left ≤ length l.words;
+  numbered : l.number + length l.words_left ≤ length l.lists.words.now;
   few : l.differences ≤ l.number;
 }
 

@@ -19,43 +19,43 @@ loop-lines-init g c = record {
   rested = λ rest. rest;
 }
 
-pub returns-in_err-write_due-clause-reads : goal.returns-in_err-write_due-clause-reads
-returns-in_err-write_due-clause-reads g c = λ s made none.
+pub returns-in_err-write_if-clause-reads : goal.returns-in_err-write_if-clause-reads
+returns-in_err-write_if-clause-reads g c = λ s made none.
     let so = c.loop-lines.invariant.words s made in
     let p = err_from_is_err_and c.from_residual.result c.from_residual.ensures.1 in
-    rw (p.1, p.2, c.in_err-write_due.ensures.why.0)
-    (to_end-cut so.1 (g.W.Sink.held c.write_due.new.writer) c.write_due.new.self.text.items c.write_due.ensures.prefix.0 c.loop-lines.line so.2 c.in_err-write_due.ensures.cut c.write_due.ensures.prefix.1)
+    rw (p.1, p.2, c.in_err-write_if.ensures.why.0)
+    (to_end-cut so.1 (g.W.Sink.held c.write_if.new.writer) c.write_if.new.self.text.items c.write_if.ensures.prefix.0 c.loop-lines.line so.2 c.in_err-write_if.ensures.cut c.write_if.ensures.prefix.1)
 
 pub returns-in_err-next_line-clause-reads : goal.returns-in_err-next_line-clause-reads
 returns-in_err-next_line-clause-reads g c = λ s made none.
     let left = g.R.Source.left in
     let so = c.loop-lines.invariant.words s made in
-    let moved = lines-moved so.1 (g.W.Sink.held c.write_due.new.writer) c.write_due.new.self.text.items c.in_ok-write_due.ensures.part in
+    let moved = lines-moved so.1 (g.W.Sink.held c.write_if.new.writer) c.write_if.new.self.text.items c.in_ok-write_if.ensures.part in
     let kept = c.loop-lines.invariant.fault ∙ none in
     let bare : c.holds_line.result ≡ false = no_line c.holds_line.result (λ has. (let ok = (c.next_line.ensures.held (sym c.holds_line.ensures ∙ has) kept).0 in let no : ⊥ = cc (ok, c.in_err-next_line.was) in no)) in
     let p = err_from_is_err_and c.from_residual-in_err-next_line.result c.from_residual-in_err-next_line.ensures.1 in
     rw (p.1, p.2) (to_end-broken moved (input_of left c.next_line.new.self) c.loop-lines.lines.fault (line_of c.next_line.new.self) c.in_err-next_line.field-0.0
-    c.loop-lines.line (c.write_due.ensures.before_read bare) kept so.2 c.in_err-next_line.ensures.long c.in_err-next_line.ensures.cut)
+    c.loop-lines.line (c.write_if.ensures.due (c.is_due-due.ensures bare)) kept so.2 c.in_err-next_line.ensures.long c.in_err-next_line.ensures.cut)
 
 pub returns-then-not-branch-clause-reads : goal.returns-then-not-branch-clause-reads
 returns-then-not-branch-clause-reads g c = λ s made none.
     let last : c.in_ok-next_line.field-0 ≡ false = search rules in
     let so = c.loop-lines.invariant.words s made in
-    let moved = lines-moved so.1 (g.W.Sink.held c.write_due.new.writer) c.write_due.new.self.text.items c.in_ok-write_due.ensures.part in
+    let moved = lines-moved so.1 (g.W.Sink.held c.write_if.new.writer) c.write_if.new.self.text.items c.in_ok-write_if.ensures.part in
     let end = c.in_ok-next_line.ensures.end last in
     let kept = c.loop-lines.invariant.fault ∙ none in
     let bare : c.holds_line.result ≡ false = no_line c.holds_line.result (λ has. (let ok = (c.next_line.ensures.held (sym c.holds_line.ensures ∙ has) kept).0 in let no : ⊥ = cc (ok, c.in_ok-next_line.was, last) in no)) in
-    to_end-all moved (input_of g.R.Source.left c.next_line.new.self) c.loop-lines.line (c.write_due.ensures.before_read bare) end.2 end.1
+    to_end-all moved (input_of g.R.Source.left c.next_line.new.self) c.loop-lines.line (c.write_if.ensures.due (c.is_due-due.ensures bare)) end.2 end.1
 
 pub returns-in_err-filter_line-clause-reads : goal.returns-in_err-filter_line-clause-reads
 returns-in_err-filter_line-clause-reads g c = λ s made none.
     let more : c.in_ok-next_line.field-0 ≡ true = search rules in
     let left = g.R.Source.left in
     let so = c.loop-lines.invariant.words s made in
-    let moved = lines-moved so.1 (g.W.Sink.held c.write_due.new.writer) c.write_due.new.self.text.items c.in_ok-write_due.ensures.part in
+    let moved = lines-moved so.1 (g.W.Sink.held c.write_if.new.writer) c.write_if.new.self.text.items c.in_ok-write_if.ensures.part in
     let line = line_of c.next_line.new.self in
     let f = c.in_err-filter_line.field-0.0 in
-    let t = c.write_due.new.self.text.items in
+    let t = c.write_if.new.self.text.items in
     let u = c.filter_line.new.rows.text.items in
     let pushes : PushesRow s line t u (Err f) = subst (λ (x : List ℕ). PushesRow s x t u (Err f)) c.line.ensures (c.in_err-filter_line.ensures.pushes s made) in
     let p = err_from_is_err_and c.from_residual-in_err-filter_line.result c.from_residual-in_err-filter_line.ensures.1 in
@@ -67,13 +67,13 @@ loop-lines-preserved g c =
     let inv = c.loop-lines.invariant in
     let left = g.R.Source.left in
     let line = line_of c.next_line.new.self in
-    let t = c.write_due.new.self.text.items in
+    let t = c.write_if.new.self.text.items in
     let u = c.filter_line.new.rows.text.items in
     record {
       between = c.in_ok-filter_line.ensures.between;
       words = λ s made.
           let so = inv.words s made in
-          let moved = lines-moved so.1 (g.W.Sink.held c.write_due.new.writer) t c.in_ok-write_due.ensures.part in
+          let moved = lines-moved so.1 (g.W.Sink.held c.write_if.new.writer) t c.in_ok-write_if.ensures.part in
           let pushes : PushesRow s line t u (Ok tt) = subst (λ (x : List ℕ). PushesRow s x t u (Ok tt)) c.line.ensures (c.in_ok-filter_line.ensures.pushes s made) in (
             so.0 ++ line ∷ [],
             lines-push moved (input_of left c.next_line.new.self) line u (c.in_ok-next_line.ensures.fits more, c.in_ok-next_line.ensures.more more) pushes,
@@ -81,11 +81,11 @@ loop-lines-preserved g c =
           );
       fault = c.in_ok-next_line.ensures.ready.1 ∙ sym c.in_ok-next_line.ensures.ready.0 ∙ inv.fault;
       read = c.in_ok-next_line.ensures.steady ∙ inv.read;
-      written = c.in_ok-write_due.ensures.steady ∙ inv.written;
+      written = c.in_ok-write_if.ensures.steady ∙ inv.written;
       bound = c.next_line.ensures.bound ∙ inv.bound;
       reads = λ timely. c.next_line.ensures.in_time (inv.reads timely);
-      writes = λ fair rest. c.write_due.ensures.in_time (inv.writes fair rest) (inv.rested rest);
-      rested = λ rest. c.in_ok-write_due.ensures.rested (inv.rested rest);
+      writes = λ fair rest. c.write_if.ensures.in_time (inv.writes fair rest) (inv.rested rest);
+      rested = λ rest. c.in_ok-write_if.ensures.rested (inv.rested rest);
     }
 
 pub returns-in_err-next_line-clause-why : goal.returns-in_err-next_line-clause-why
@@ -94,11 +94,11 @@ returns-in_err-next_line-clause-why g c =
     let p = err_from_is_err_and c.from_residual-in_err-next_line.result c.from_residual-in_err-next_line.ensures.1 in
     rw (p.1, p.2) (reason-before g.R.Source.tally c.args.lines.now c.loop-lines.lines c.next_line.new.self c.in_err-next_line.field-0.0 c.in_err-next_line.ensures.why inv.read inv.bound inv.fault)
 
-pub returns-in_err-write_due-clause-why_write : goal.returns-in_err-write_due-clause-why_write
-returns-in_err-write_due-clause-why_write g c =
+pub returns-in_err-write_if-clause-why_write : goal.returns-in_err-write_if-clause-why_write
+returns-in_err-write_if-clause-why_write g c =
     let inv = c.loop-lines.invariant in
     let p = err_from_is_err_and c.from_residual.result c.from_residual.ensures.1 in
-    rw (p.1, p.2) (λ write. (stopped-before g.W.Sink.tally c.args.writer.now c.loop-lines.writer c.write_due.new.writer inv.written c.in_err-write_due.ensures.why.1, c.in_err-write_due.ensures.cut))
+    rw (p.1, p.2) (λ write. (stopped-before g.W.Sink.tally c.args.writer.now c.loop-lines.writer c.write_if.new.writer inv.written c.in_err-write_if.ensures.why.1, c.in_err-write_if.ensures.cut))
 
 pub returns-in_err-filter_line-clause-why : goal.returns-in_err-filter_line-clause-why
 returns-in_err-filter_line-clause-why g c =

@@ -23,7 +23,8 @@ pub run_of-requires-clause-room : goal.run_of-requires-clause-room
 run_of-requires-clause-room g c =
     let left = runs_left (words_in c.args.before.now.entries) c.args.words.now c.loop-word.word-index c.loop-word-test.true in
     let so = c.loop-word.invariant.counted in
-    let room = c.requires.room in
+    let few = c.if-left-needed.false in
+    let needed = c.count_new-needed.ensures in
     omega arith
 
 pub put-requires : goal.put-requires
@@ -53,7 +54,8 @@ returns-in_err-last-clause-stop g c =
     let es = words_in c.args.before.now.entries in
     let w = get_or c.args.words.now c.loop-word.word-index no_text in
     let e = c.in_err-last.field-0.0 in
-    let room = c.requires.room in
+    let few = c.if-left-needed.false in
+    let count = c.count_new-needed.ensures in
     let needed = length (new_words es (texts_of c.args.words.now)) in
     rw (f.1, f.2) (cut_stops e needed c.args.meter.now c.run_of.new.meter (omega arith)
     (cut_more e (runs_of_word es w.now) needed c.args.meter.now c.loop-word.meter c.run_of.new.meter more (omega arith) c.in_err-last.ensures.cut))
@@ -67,7 +69,8 @@ pub returns-in_err-put-clause-stop : goal.returns-in_err-put-clause-stop
 returns-in_err-put-clause-stop g c =
     let f = err_from_is_err_and c.from_residual-in_err-put.result c.from_residual-in_err-put.ensures.1 in
     let is = c.in_ok-last.ensures.counted in
-    let room = c.requires.room in
+    let few = c.if-left-needed.false in
+    let needed = c.count_new-needed.ensures in
     let left = runs_left (words_in c.args.before.now.entries) c.args.words.now c.loop-word.word-index c.loop-word-test.true in
     let so = c.loop-word.invariant.counted in
     let more = c.loop-word.invariant.more in

@@ -1,10 +1,8 @@
-use Rattle.std.proofs.Common.{◌≡◌, drop, map}
-use Rattle.std.specs.List.{flat_map}
+use Rattle.std.proofs.Common.{◌≡◌}
 use Rattle.sbl_script.specs.ParsedScript.{source_of}
-use Rattle.sbl_ast.specs.Order.{ItemInMode, view_in_mode}
-use Rattle.sbl_explain.specs.Parts.{parts_by, parts_of, put_in_order}
+use Rattle.sbl_explain.specs.Parts.{parts_of, put_in_order}
 use Rattle.sbl_explain.specs.UnusedViews.{view_parts}
 use Rattle.sbl_explain.proofs.usable_parts.parts_of.Given as goal
 
-abbrev pub invariant-loop-item : goal.invariant-loop-item
-invariant-loop-item l = put_in_order (view_parts l.parts.entries) (flat_map (λ (x : ItemInMode). parts_by x.plain) (map view_in_mode (drop l.item-index l.item-items))) ≡ parts_of (source_of l.script)
+abbrev pub invariant-loop-part : goal.invariant-loop-part
+invariant-loop-part l = put_in_order (view_parts l.parts.entries) (view_parts l.part-iterator.rest.items) ≡ parts_of (source_of l.script)

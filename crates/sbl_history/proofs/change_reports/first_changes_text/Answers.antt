@@ -17,8 +17,8 @@ returns c =
     let found : view_changes c.in_ok-found.found.items ≡ changes = c.in_ok-found.ensures (setting_of c.args.bench.now) c.args.bench.now.words rows ∙ ap (changes_of before) rows in
     let words : view_changes c.deref-2.result.now ≡ changes = ap view_changes c.deref-2.ensures.value ∙ found in
     let classes : view_changes c.deref-3.result.now ≡ changes = ap view_changes c.deref-3.ensures.value ∙ found in
-    c.in_ok-push_first_of-2.ensures
-    ∙ (λ i. (c.in_ok-push_first_of.ensures ∙ ap (λ (l : List ℕ). l ++ rows_of (first_word_changes n (view_changes c.deref-2.result.now))) c.new-out.ensures.items) i
+    c.in_ok-push_first_of_each-2.ensures
+    ∙ (λ i. (c.in_ok-push_first_of_each.ensures ∙ ap (λ (l : List ℕ). l ++ rows_of (first_word_changes n (view_changes c.deref-2.result.now))) c.new-out.ensures.items) i
     ++ rows_of (first_class_changes n (view_changes c.deref-3.result.now)))
     ∙ (λ i. rows_of (first_word_changes n (words i)) ++ rows_of (first_class_changes n (classes i)))
     ∙ sym (rows_append (first_word_changes n changes) (first_class_changes n changes))

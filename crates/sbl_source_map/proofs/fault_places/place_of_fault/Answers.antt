@@ -17,12 +17,12 @@ returns-in_default c = λ f t h. (rw c.in_default.is at c.text_of.ensures) h.pla
 pub returns-in_default-2 : goal.returns-in_default-2
 returns-in_default-2 c =
     let text = rw c.in-Some.is at c.text_of.ensures in
-    no_place_without_tokens c.args.text.now c.in-Some.text.now text.0 (rw c.in_default-2.is at c.in_ok-tokens.ensures)
+    no_place_without_tokens c.args.text.now c.in-Some.text.now text.0 (rw c.in_default-2.is at c.in_ok-tokens.ensures.placed)
 
 pub returns-in_default-3 : goal.returns-in_default-3
 returns-in_default-3 c =
     let text = rw c.in-Some.is at c.text_of.ensures in
-    let cut = rw c.in-Some-2.is at c.in_ok-tokens.ensures in
+    let cut = rw c.in-Some-2.is at c.in_ok-tokens.ensures.placed in
     no_place_without_tree c.tokens_are_one.ensures.places c.args.text.now (map placed_of c.deref.result.now)
     (cut_in c.args.text.now c.in-Some.text.now c.in-Some-2.tokens.items c.deref.result.now text.0 cut c.deref.ensures.value) (rw c.in_default-3.is at c.in_ok-items.ensures)
 
@@ -30,7 +30,7 @@ pub returns-in_default-4 : goal.returns-in_default-4
 returns-in_default-4 c =
     let items = c.in-Some-3.items.items in
     let text = rw c.in-Some.is at c.text_of.ensures in
-    let cut = rw c.in-Some-2.is at c.in_ok-tokens.ensures in
+    let cut = rw c.in-Some-2.is at c.in_ok-tokens.ensures.placed in
     let tree = rw c.in-Some-3.is at c.in_ok-items.ensures in
     let passes = rw c.in_default-4.is at c.in_ok-number.ensures in
     no_place_without_fault c.tokens_are_one.ensures.places c.one_tree.ensures.text c.args.text.now (map placed_of c.deref.result.now) (view_items items)
@@ -40,7 +40,7 @@ returns-in_default-4 c =
 pub returns-in-Some-5 : goal.returns-in-Some-5
 returns-in-Some-5 c =
     let text = rw c.in-Some.is at c.text_of.ensures in
-    let cut = rw c.in-Some-2.is at c.in_ok-tokens.ensures in
+    let cut = rw c.in-Some-2.is at c.in_ok-tokens.ensures.placed in
     let tree = rw c.in-Some-3.is at c.in_ok-items.ensures in
     let first = rw c.in-Some-4.is at c.in_ok-number.ensures in
     let range = sym c.in-Some-5.is ∙ c.in_ok-begin.ensures in
@@ -52,7 +52,7 @@ returns-in-Some-5 c =
 pub returns : goal.returns
 returns c =
     let text = rw c.in-Some.is at c.text_of.ensures in
-    let cut = rw c.in-Some-2.is at c.in_ok-tokens.ensures in
+    let cut = rw c.in-Some-2.is at c.in_ok-tokens.ensures.placed in
     let tree = rw c.in-Some-3.is at c.in_ok-items.ensures in
     let first = rw c.in-Some-4.is at c.in_ok-number.ensures in
     let range = sym c.in-None.is ∙ c.in_ok-begin.ensures in

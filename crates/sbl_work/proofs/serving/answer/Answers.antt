@@ -11,13 +11,13 @@ use Rattle.sbl_work.proofs.serving.answer.Goals as goal
 pub returns-in-None-clause-answered : goal.returns-in-None-clause-answered
 returns-in-None-clause-answered g c =
     let s = contents_of c.args.bench.now in
-    let t = contents_of c.answer_noted.new.bench in
+    let t = contents_of c.answer_alone-reply.new.bench in
     let d = state_of c.args.desk.now in
-    let e = state_of c.answer_noted.new.desk in
+    let e = state_of c.answer_alone-reply.new.desk in
     let line = line_of c.args.lines.now in
     let asks : asks_work_block line ≡ false = subst (λ (x : List ℕ). asks_work_block x ≡ false) c.line.ensures c.in-None.ensures in
-    let is : IsFileAnswer s d line c.answer_noted.result t e = subst (λ (x : List ℕ). IsFileAnswer s d x c.answer_noted.result t e) c.line-in-None.ensures c.answer_noted.ensures in
-    answered_line (input_of g.R.Source.left c.args.lines.now) line s t d e c.answer_noted.result asks is
+    let is : IsFileAnswer s d line c.answer_alone-reply.result t e = subst (λ (x : List ℕ). IsFileAnswer s d x c.answer_alone-reply.result t e) c.line-line.ensures c.answer_alone-reply.ensures in
+    answered_line (input_of g.R.Source.left c.args.lines.now) line s t d e c.answer_alone-reply.result asks is
 
 pub returns-in-None-clause-reading : goal.returns-in-None-clause-reading
 returns-in-None-clause-reading g c = reads-nothing _ _ _ _ c.requires.ready

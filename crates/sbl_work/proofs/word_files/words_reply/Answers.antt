@@ -8,8 +8,8 @@ use Rattle.sbl_work.specs.ReplyViews.{IsWorkAnswer, view_file}
 use Rattle.sbl_work.proofs.WordFileFacts.{words_answer}
 use Rattle.sbl_work.proofs.word_files.words_reply.Goals as goal
 
-pub returns-in-Some : goal.returns-in-Some
-returns-in-Some g c =
+pub returns : goal.returns
+returns g c =
     let s = contents_of c.args.bench.now in
     let t = contents_of c.reread_words.new.bench in
     let d = state_of c.args.desk.now in

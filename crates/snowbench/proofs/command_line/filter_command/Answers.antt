@@ -1,10 +1,11 @@
-use Rattle.std.proofs.Common.{◌∙◌, ap₂}
+use Rattle.std.proofs.Common.{◌∙◌, ap₂, ap, codes}
 use Rattle.std.proofs.lemmas.Result.{IfOk-weaker}
-use Rattle.clap.specs.Words.{with_rule}
+use Rattle.clap.specs.Words.{with_rule, App, Rule, new_rule}
+use Rattle.snowbench.specs.CommandLine.{verb_app}
 use Rattle.snowbench.proofs.command_line.filter_command.Goals as goal
 
 pub returns : goal.returns
 returns c =
-    let first = c.in_ok-arg.ensures.shape c.file_arg.ensures.here ∙ ap₂ with_rule c.in_ok-verb_command.ensures c.file_arg.ensures.rule in
-    let second = c.in_ok-arg-2.ensures.shape c.file_arg-2.ensures.here ∙ ap₂ with_rule first c.file_arg-2.ensures.rule in
-    IfOk-weaker c.arg-3.result _ _ (λ r h. h.shape c.flag_arg.ensures.here ∙ ap₂ with_rule second c.flag_arg.ensures.rule) c.arg-3.ensures
+    let begun : Rule → App = λ r. with_rule (with_rule (verb_app (codes "filter")) r) (new_rule (codes "WORDS")) in
+    let second = c.in_ok-words_command.ensures ∙ ap begun c.file_arg-script.ensures.rule in
+    IfOk-weaker c.arg.result _ _ (λ r h. h.shape c.flag_arg.ensures.here ∙ ap₂ with_rule second c.flag_arg.ensures.rule) c.arg.ensures

@@ -40,12 +40,12 @@ returns-in_err-list-clause-told g c =
     let f = err_from_is_err_and c.from_residual.result c.from_residual.ensures.1 in
     rw (f.1, f.2) (untold _ g (list_ends (map (λ w. w.items) c.args.words.now) g c.in_err-list.ensures.fault))
 
-pub make_traces-requires-clause-sound : goal.make_traces-requires-clause-sound
-make_traces-requires-clause-sound g c =
+pub runs_of-requires-clause-sound : goal.runs_of-requires-clause-sound
+runs_of-requires-clause-sound g c =
     (is_vocabulary (map (λ w. w.items) c.args.words.now) c.in_ok-list.list.items c.deref.result.now c.in_ok-list.ensures.ok c.in_ok-list.ensures.words c.deref.ensures.value).sound
 
-pub make_traces-requires-clause-distinct : goal.make_traces-requires-clause-distinct
-make_traces-requires-clause-distinct g c =
+pub runs_of-requires-clause-distinct : goal.runs_of-requires-clause-distinct
+runs_of-requires-clause-distinct g c =
     (is_vocabulary (map (λ w. w.items) c.args.words.now) c.in_ok-list.list.items c.deref.result.now c.in_ok-list.ensures.ok c.in_ok-list.ensures.words c.deref.ensures.value).distinct
 
 pub returns-in_err-traces-clause-edits : goal.returns-in_err-traces-clause-edits
@@ -57,9 +57,9 @@ returns-in_err-traces-clause-edits g c =
     let listed = ap texts_of c.deref.ensures.value ∙ c.in_ok-list.ensures.words in
     let g = c.in_err-traces.field-0.0 in
     let f = err_from_is_err_and c.from_residual-in_err-traces.result c.from_residual-in_err-traces.ensures.1 in
-    let stop = subst (λ (v : List (List ℕ)). IsStopOf (length (new_words (words_in es) v)) g c.self.inside.meter c.make_traces.new.meter) listed c.in_err-traces.ensures.stop in
-    rw (f.1, f.2) (subst (λ (k : KeptRuns). EditsOrBreaks (Err g) (contents_of k) (Words ws) (record { setting = t; words = words_in es; count = c.make_traces.new.meter })) c.self.view_is
-    (words_stop s ws c.in_ok-list.ensures.ok g c.make_traces.new.meter stop))
+    let stop = subst (λ (v : List (List ℕ)). IsStopOf (length (new_words (words_in es) v)) g c.self.inside.meter c.runs_of.new.meter) listed c.in_err-traces.ensures.stop in
+    rw (f.1, f.2) (subst (λ (k : KeptRuns). EditsOrBreaks (Err g) (contents_of k) (Words ws) (record { setting = t; words = words_in es; count = c.runs_of.new.meter })) c.self.view_is
+    (words_stop s ws c.in_ok-list.ensures.ok g c.runs_of.new.meter stop))
 
 pub invariant_of-self-2 : goal.invariant_of-self-2
 invariant_of-self-2 g c =
@@ -86,9 +86,9 @@ returns-clause-edits g c =
     let s : Contents = record { setting = t; words = words_in es; count = c.self.inside.meter } in
     let listed = ap texts_of c.deref.ensures.value ∙ c.in_ok-list.ensures.words in
     let room = subst (λ (v : List (List ℕ)). length (new_words (words_in es) v) ≤ max_runs - c.self.inside.meter) listed c.in_ok-traces.ensures.room in
-    let counted = subst (λ (v : List (List ℕ)). c.make_traces.new.meter ≡ c.self.inside.meter + length (new_words (words_in es) v)) listed c.in_ok-traces.ensures.counted in
-    subst (λ (k : KeptRuns). Edits (Ok tt) (contents_of k) (Words ws) (record { setting = t; words = words_in fs; count = c.make_traces.new.meter })) c.self.view_is
-    (words_replace s ws c.in_ok-list.ensures.ok (words_in fs) c.make_traces.new.meter (c.in_ok-traces.ensures.words ∙ listed) room counted)
+    let counted = subst (λ (v : List (List ℕ)). c.runs_of.new.meter ≡ c.self.inside.meter + length (new_words (words_in es) v)) listed c.in_ok-traces.ensures.counted in
+    subst (λ (k : KeptRuns). Edits (Ok tt) (contents_of k) (Words ws) (record { setting = t; words = words_in fs; count = c.runs_of.new.meter })) c.self.view_is
+    (words_replace s ws c.in_ok-list.ensures.ok (words_in fs) c.runs_of.new.meter (c.in_ok-traces.ensures.words ∙ listed) room counted)
 
 pub returns-clause-changes : goal.returns-clause-changes
 returns-clause-changes g c =

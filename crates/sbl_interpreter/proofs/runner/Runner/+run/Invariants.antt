@@ -46,7 +46,7 @@ abbrev pub decreases-run_limited : goal.decreases-run_limited
 decreases-run_limited g l = 8 * l.state.now.steps + 1
 
 abbrev pub decreases-run_call : goal.decreases-run_call
-decreases-run_call g l = 8 * l.state.now.steps + 1
+decreases-run_call g l = 8 * l.state.now.steps + 4
 
 abbrev pub decreases-run_search_all : goal.decreases-run_search_all
 decreases-run_search_all g l = 8 * l.state.now.steps + 4

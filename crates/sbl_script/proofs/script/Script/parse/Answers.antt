@@ -1,4 +1,4 @@
-use Rattle.std.proofs.Common.{◌≡◌, ◌⊎◌, ℕ, List, length, map, inl, inr, subst}
+use Rattle.std.proofs.Common.{ℕ, List, map, inl, inr, subst}
 use Rattle.std.proofs.lemmas.Result.{err_from_is_err_and}
 use Rattle.std.specs.Str.{chars}
 use Rattle.sbl_token.specs.declared.token.Token.{Token}
@@ -7,9 +7,8 @@ use Rattle.sbl_text.specs.Tokens.{ArePlacedFrom, placed_of}
 use Rattle.sbl_parser.specs.Reading.{IsReadAs}
 use Rattle.sbl_ast.specs.Texts as texts
 use Rattle.sbl_ast.specs.View.{view_items}
-use Rattle.sbl_text.specs.declared.fault.ScriptFault.TheVariants as fault
-use Rattle.sbl_script.specs.Reading.{IsUnread, lexemes}
-use Rattle.sbl_script.proofs.Places.{unread_is_fault}
+use Rattle.sbl_script.specs.Reading.{lexemes}
+use Rattle.sbl_script.proofs.Places.{unread_bytes, unread_is_fault}
 use Rattle.sbl_script.proofs.Spelled.{script_said}
 use Rattle.sbl_script.proofs.script.Script.parse.Goals as goal
 
@@ -21,13 +20,9 @@ returns-in_err-text-clause-fault c =
 pub returns-in_err-items-clause-fault : goal.returns-in_err-items-clause-fault
 returns-in_err-items-clause-fault c =
     let p = err_from_is_err_and c.from_residual-in_err-items.result c.from_residual-in_err-items.ensures.1 in
-    let f = c.in_err-items.field-0.0 in
-    let ts = map placed_of c.in_ok-found.found.items in
     let text = c.in_ok-text.ensures.ok in
-    let cut = subst (λ (x : List ℕ). ArePlacedFrom start (chars x) ts) text.0 c.in_ok-found.ensures.placed in
-    let found = subst (λ (xs : List Token). (f ≡ fault.OutOfMemory) ⊎ IsUnread texts.script (map placed_of xs) (length c.in_ok-text.text.now) f) c.deref.ensures.value c.in_err-items.ensures.fault in
-    let unread = subst (λ (x : List ℕ). (f ≡ fault.OutOfMemory) ⊎ IsUnread texts.script ts (length x) f) text.0 found in
-    rw (p.1, p.2) (unread_is_fault c.args.bytes.now c.args.external.now ts f (record { short = text.1; text = text.2; cut = cut }) unread)
+    let u = unread_bytes c.args.bytes.now c.in_ok-text.text.now _ c.in_ok-found.found.items c.in_err-items.field-0.0 text.0 c.deref.ensures.value text.1 text.2 c.in_ok-found.ensures.placed c.in_err-items.ensures.fault in
+    rw (p.1, p.2) (unread_is_fault c.args.bytes.now c.args.external.now (map placed_of c.in_ok-found.found.items) c.in_err-items.field-0.0 u.0 u.1)
 
 pub check_tree-requires-clause-spelled : goal.check_tree-requires-clause-spelled
 check_tree-requires-clause-spelled c =

@@ -16,7 +16,7 @@ use Rattle.sbl_script.proofs.Editing.{terms_there, check_refused, text_edited, t
 use Rattle.sbl_script.proofs.Found.{same_name}
 use Rattle.sbl_script.proofs.Shallow.{grouping_shallow}
 use Rattle.sbl_script.proofs.Spelled.{terms_said, read_said}
-use Rattle.sbl_script.proofs.script.Script.with_terms.Goals as goal
+use Rattle.sbl_script.proofs.script.Script.with_grouping.Goals as goal
 
 pub returns-in_err-found-clause-fault : goal.returns-in_err-found-clause-fault
 returns-in_err-found-clause-fault c =

@@ -16,7 +16,7 @@ use Rattle.sbl_script.proofs.Editing.{body_there, check_refused, text_edited, te
 use Rattle.sbl_script.proofs.Found.{same_name}
 use Rattle.sbl_script.proofs.Shallow.{routine_shallow}
 use Rattle.sbl_script.proofs.Spelled.{body_said, read_said}
-use Rattle.sbl_script.proofs.script.Script.with_body.Goals as goal
+use Rattle.sbl_script.proofs.script.Script.with_routine.Goals as goal
 
 pub returns-in_err-found-clause-fault : goal.returns-in_err-found-clause-fault
 returns-in_err-found-clause-fault c =

@@ -8,7 +8,7 @@ use Rattle.sbl_explain.specs.Used.{Usable}
 use Rattle.sbl_explain.specs.declared.kept_words.KeptWord.{KeptWord}
 use Rattle.sbl_explain.specs.declared.usables.Usable as declared
 use Rattle.sbl_explain.proofs.Defined.{usables_defined}
-use Rattle.sbl_explain.proofs.counts.counts_text.Goals as goal
+use Rattle.sbl_explain.proofs.kept_takes.KeptTakes.counts_text.Goals as goal
 
 pub returns : goal.returns
 returns c =

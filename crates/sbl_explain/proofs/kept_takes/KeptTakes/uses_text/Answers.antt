@@ -9,7 +9,7 @@ use Rattle.sbl_script.specs.ParsedScript.{ParsedScript, source_of}
 use Rattle.sbl_explain.specs.UsableViews.{is_defined, view_usable}
 use Rattle.sbl_explain.specs.Uses.{question_of, usable_for, users_text}
 use Rattle.sbl_explain.proofs.Defined.{asked_defined}
-use Rattle.sbl_explain.proofs.uses.uses_text.Goals as goal
+use Rattle.sbl_explain.proofs.kept_takes.KeptTakes.uses_text.Goals as goal
 
 pub returns : goal.returns
 returns c =

@@ -1,7 +1,7 @@
 use Rattle.std.proofs.Common.{List, subst, sym}
 use Rattle.sbl_explain.specs.Kept.{KeepsWords}
 use Rattle.sbl_explain.specs.declared.kept_words.KeptWord.{KeptWord}
-use Rattle.sbl_explain.proofs.unused.unused_text.Goals as goal
+use Rattle.sbl_explain.proofs.kept_takes.KeptTakes.unused_text.Goals as goal
 
 pub returns : goal.returns
 returns c =

@@ -22,7 +22,7 @@ use Rattle.sbl_script.specs.SpelledScript.{AreSpelled, IsSpelled}
 use Rattle.sbl_script.proofs.Found.{same_name}
 use Rattle.sbl_script.proofs.Shallow.{body_shallow, fits, routine_shallow}
 use Rattle.sbl_script.proofs.Spelled.{among_said, read_said}
-use Rattle.sbl_script.proofs.script.Script.with_nth_among.Goals as goal
+use Rattle.sbl_script.proofs.script.Script.with_among.Goals as goal
 
 pub nth_among-requires : goal.nth_among-requires
 nth_among-requires c =

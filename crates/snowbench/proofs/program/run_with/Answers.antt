@@ -1,5 +1,5 @@
 use Rattle.std.proofs.Common.{Err, refl}
-use Rattle.snowbench.proofs.program.run_watched.Goals as goal
+use Rattle.snowbench.proofs.program.run_with.Goals as goal
 
 pub returns-in-Err-clause-runs : goal.returns-in-Err-clause-runs
 returns-in-Err-clause-runs g c = λ none. record {
