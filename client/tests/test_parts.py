@@ -1,5 +1,6 @@
 """The parts that know no terminal: rows, layouts, loops, near names, warnings, options, what is kept."""
 import os
+import re
 import subprocess
 import sys
 import time
@@ -183,6 +184,15 @@ class Others(Case):
         self.assertEqual(list(shown), [
             (10, what % ("аcč", "c, č (U+010D) and а (U+0430)")), (20, what % ("bcdefghi", "b, c, d, e, f and 3 more")),
         ])
+
+    def test_a_literal_that_no_text_has(self):
+        """A string of an among is none of these: `unused` names it."""
+        text = b"define stem as ( ['ba'] ['ab'] <- 'xy' 'xy' among ( 'bb' ) )"
+        found = rows.read("places", ["routine,stem,0,%d,1,1" % len(text), "entry,stem,1,bb,51,55,1,52"])
+        parts = re.finditer(r"'\w+'|\w+|<-|\S", text.decode())
+        tokens = [rows.Token("literal" if part[0][0] == "'" else "word", part.start(), part.end(), part[0]) for part in parts]
+        shown = lints.strange_strings(lints.Script(Places("my.sbl", text, text, found, tokens)), [rows.Outcome("abb", "stem", "ab")])
+        self.assertEqual(list(shown), [(18, "no word and no stem has 'ba'")])
 
     def test_letters_that_are_not_seen_are_named(self):
         named = {" ": "a blank", "\t": "a tab", "\u00a0": "U+00A0", "\u200b": "U+200B", "\u030c": "U+030C", "\x1b": "U+001B", "\U00010330": "\U00010330 (U+10330)", "'": "'"}

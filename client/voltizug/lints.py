@@ -292,17 +292,22 @@ def unset_integers(script: Script) -> Iterable[Lint]:
 
 
 def strange_strings(script: Script, outcomes: Sequence[Outcome]) -> Iterable[Lint]:
-    """The strings of routines with a letter that no word has and no command puts in."""
+    """The strings of routines with a letter that no word has and no command puts in; and those that are tested, outside of amongs, and in no text."""
     found = list(values_of(script.tokens))
-    there = set().union(*(value for _, value, is_put in found if is_put), *(row.word + row.stem * (row.kind == "stem") for row in outcomes))  # type: Set[str]
+    texts = [value for _, value, is_put in found if is_put] + [row.word + "\n" + row.stem * (row.kind == "stem") for row in outcomes]
+    there = set().union(*texts)  # type: Set[str]
     starts = {token.start for body in script.bodies.values() for token in body}
     strings = {token.start: value for token, value, is_put in found if not is_put and token.start in starts}
     strings.update({int(row.start): string for (_, _, string), row in script.places.entries.items()})
-    for start, string in sorted(strings.items()):
+    # (`unused` names the strings of amongs)
+    entries, whole = {int(row.start) for row in script.places.entries.values()}, "\n".join(texts)
+    for start, string in sorted(strings.items()) if outcomes else []:
         strange = list(map(letter, sorted(set(string) - there)))
         # (of those in another form of Unicode a warning speaks once)
-        if strange and outcomes and len(composed(string)) == len(string):
+        if strange and len(composed(string)) == len(string):
             yield start, "'%s' has %s, which no word has and no command puts in" % (short(string), in_words(strange, "and", 6))
+        elif not strange and start not in entries and string not in whole:
+            yield start, "no word and no stem has '%s'" % short(string)
 
 
 def put_blanks(script: Script, outcomes: Sequence[Outcome]) -> Iterable[Lint]:

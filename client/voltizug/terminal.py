@@ -396,7 +396,7 @@ class Terminal(Desk):
         there = set(kept.read_lines(bench.words)) if bench.added else set()
         added = [word for word in bench.added if encoded(word) not in there]
         what, it = ("word that you added is", "it") if len(added) == 1 else ("words that you added are", "them")
-        to = "append puts %s into %s" % (it, short(bench.words)) if bench.words and os.path.exists(bench.words) else "append FILE writes %s" % it
+        to = "append puts %s into %s" % (it, short(bench.words)) if os.path.isfile(bench.words or "") else "append FILE writes %s" % it
         return "The %s in no file (%s): %s%s." % (what, in_words(added, "and", 5), to, then.format(it)) if added else ""
 
     def turn(self) -> bool:

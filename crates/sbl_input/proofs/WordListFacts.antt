@@ -14,7 +14,7 @@ use Rattle.sbl_rows.specs.Setting.{under}
 use Rattle.sbl_bench.specs.Vocabulary.{is_skipped, is_word, vocabulary, with_word}
 use Rattle.sbl_bench.specs.inside.ProofNames.{with_all}
 use Rattle.sbl_bench.specs.declared.fault.EditFault.{EditFault}
-use Rattle.sbl_input.specs.WordLists.{AreDistinct, AreKept, HasRoom, OpensAs, texts_of}
+use Rattle.sbl_input.specs.WordLists.{AreDistinct, AreKept, HasRoom, IsVocabulary, OpensAs, texts_of}
 use Rattle.sbl_input.specs.declared.word_list.KeptWords.{KeptWords}
 use Rattle.sbl_input.specs.declared.word_list.KeptWords.TheVariants.{Distinct, Plain}
 
@@ -69,7 +69,7 @@ pub kept-refuse : (words all : List (List ℕ)) (w : List ℕ) → AreKept words
     → AreKept words (Some w) (all ++ w ∷ [])
 kept-refuse words all w kept refused =
     let after = fault_after (vocabulary words) all w kept.0 (sym kept.2) in
-    (ap is_some after ∙ refused, fault_after (vocabulary words) words w kept.1 refl ∙ sym after)
+    (ap is_some after ∙ refused, fault_after (vocabulary words) words w kept.1 refl ∙ sym after, kept.1)
 
 -- a word that is not refused, after words without repeats
 pub kept-with : (words all : List (List ℕ)) (w : List ℕ) → vocabulary words ≡ words → AreKept words None all → word_fault (vocabulary words) w ≡ None
@@ -88,11 +88,11 @@ distinct-with words w distinct = by (is_skipped w words) refl
     by true h = rw h distinct
     by false h = rw h (vocabulary_after words words w distinct ∙ rw h refl)
 
-or_left : (a b : Option EditFault) → option_or a b ≡ None → a ≡ None
+pub or_left : (a b : Option EditFault) → option_or a b ≡ None → a ≡ None
 or_left None b none = refl
 or_left (Some x) b none = none
 
-or_right : (a b : Option EditFault) → option_or a b ≡ None → b ≡ None
+pub or_right : (a b : Option EditFault) → option_or a b ≡ None → b ≡ None
 or_right None b none = none
 or_right (Some x) b none = cc
 
@@ -118,6 +118,18 @@ fine-all words (w ∷ ws) distinct fine none =
 pub kept-distinct : (words all : List (List ℕ)) → AreKept words None all → AreKept (vocabulary words) None all
 kept-distinct words all kept = (kept.0, fine-all [] words refl refl kept.1, distinct-vocabulary words ∙ kept.2)
 
+-- the vocabulary of what is kept, if no word was refused
+pub vocabulary_kept : (words all : List (List ℕ)) → AreKept words None all → IsVocabulary (vocabulary words) all
+vocabulary_kept words all kept = record {
+  all_fine = kept.0;
+  fine = (kept-distinct words all kept).1;
+  same = kept.2;
+}
+
+-- the fault of all words is that of the one that was refused
+pub fault_refused : (words all : List (List ℕ)) (refused : List ℕ) → AreKept words (Some refused) all → opening_fault [] all ≡ word_fault (vocabulary words) refused
+fault_refused words all refused kept = sym kept.1 ∙ fault_after (vocabulary words) words refused kept.2 refl
+
 or_some : (a b : Option EditFault) → is_some a ≡ true → option_or a b ≡ a
 or_some None b some = cc
 or_some (Some x) b some = refl
@@ -126,7 +138,7 @@ or_some (Some x) b some = refl
 pub kept-after : (words all : List (List ℕ)) (refused w : List ℕ) → AreKept words (Some refused) all → AreKept words (Some refused) (all ++ w ∷ [])
 kept-after words all refused w kept =
     let same = fault-push [] all w ∙ or_some (opening_fault [] all) _ kept.0 in
-    (ap is_some same ∙ kept.0, kept.1 ∙ sym same)
+    (ap is_some same ∙ kept.0, kept.1 ∙ sym same, kept.2)
 
 pub kept-empty : (words all : List (List ℕ)) (w : List ℕ) → AreKept words None all → nat_eq (length w) 0 ≡ true → AreKept words None (all ++ w ∷ [])
 kept-empty words all [] kept empty = kept-skip words all [] kept refl refl

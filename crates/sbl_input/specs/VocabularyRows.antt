@@ -11,12 +11,10 @@ use Rattle.sbl_semantics.specs.Limit.{default_limit}
 use Rattle.sbl_input.specs.Loading.{IsInput, IsLoadFault}
 use Rattle.sbl_reports.specs.RowRecords.{row_fields}
 use Rattle.sbl_reports.specs.Listings.{stems_text}
-use Rattle.sbl_io.specs.RecordsWritten.{HasWritten}
-use Rattle.sbl_input.specs.WordLists.{HoldsWords, texts_of}
+use Rattle.sbl_input.specs.WordLists.{HoldsWords}
 use Rattle.sbl_input.specs.declared.loading.ParsedInput.{ParsedInput}
 use Rattle.sbl_script.specs.ParsedScript.{source_of}
 use Rattle.sbl_input.specs.declared.faults.LoadFault.{LoadFault}
-use Rattle.sbl_input.specs.declared.vocabulary_rows.VocabularyRows.{VocabularyRows}
 
 -- The script and the words of an input were read; or why there is no bench of it.
 abbrev pub ReadsInput : Option (List ℕ) → Option (List ℕ) → List ℕ → Result ParsedInput LoadFault → Type 0
@@ -29,10 +27,6 @@ ReadsInput old new external (Err f) = IsLoadFault old new external f
 -- the text of the rows of words
 abbrev pub text_of_rows : Source → List (List ℕ) → List ℕ
 text_of_rows s words = records_text (map row_fields (rows_of (under s default_limit) words))
-
--- the rows of the words so far are written
-abbrev pub IsWriting : Source → VocabularyRows → Type 0
-IsWriting s rows = HasWritten rows.records.writer (text_of_rows s (texts_of rows.words.keys))
 
 -- the text of the rows that a bench of these words has; or a fault of the words, or an allocation failed
 abbrev pub RowsOpen : {B : Type 0} → Source → List (List ℕ) → (List ℕ → B → Type 0) → Result B EditFault → Type 0

@@ -24,6 +24,12 @@ pub record OpensAs (words all : List (List ℕ)) : Type 0 where
   pub faults : opening_fault [] words ≡ opening_fault [] all
   pub vocabularies : opening_fault [] all ≡ None → vocabulary words ≡ vocabulary all
 
+-- Words without a fault, and the vocabulary of these: the one that a bench of all has.
+pub record IsVocabulary (words all : List (List ℕ)) : Type 0 where
+  pub all_fine : opening_fault [] all ≡ None
+  pub fine : opening_fault [] words ≡ None
+  pub same : words ≡ vocabulary all
+
 -- the words that are kept, in their order
 abbrev pub texts_in : KeptWords → List (List ℕ)
 texts_in (Plain words) = texts_of words.items
@@ -39,11 +45,12 @@ abbrev pub HasRoom : KeptWords → Type 0
 HasRoom (Plain words) = length words.items < 100000
 HasRoom (Distinct words) = vocabulary (texts_of words.keys) ≡ texts_of words.keys
 
--- These words are kept of all the words so far: they have no fault, and the same vocabulary as all; or a word that is refused
--- after them has the fault of all.
+-- These words are kept of all the words so far: they have no fault, and the same vocabulary as all; or they have no fault, and a word
+-- that is refused after them has the fault of all.
 abbrev pub AreKept : List (List ℕ) → Option (List ℕ) → List (List ℕ) → Type 0
 AreKept words None all = (opening_fault [] all ≡ None) × (opening_fault [] words ≡ None) × (vocabulary words ≡ vocabulary all)
-AreKept words (Some refused) all = (is_some (opening_fault [] all) ≡ true) × (opening_fault [] (words ++ refused ∷ []) ≡ opening_fault [] all)
+AreKept words (Some refused) all =
+    (is_some (opening_fault [] all) ≡ true) × (opening_fault [] (words ++ refused ∷ []) ≡ opening_fault [] all) × (opening_fault [] words ≡ None)
 
 -- a word that a bench does not refuse is kept after all words so far
 abbrev pub KeepsWord : KeptWords → List ℕ → KeptWords → Type 0
@@ -53,6 +60,10 @@ KeepsWord old word new =
 
 abbrev pub HoldsWords : WordList → List (List ℕ) → Type 0
 HoldsWords list all = AreKept (texts_in list.words) (option_map (λ w. w.items) list.refused) all × AreDistinct list.words
+
+-- these are kept of some words
+abbrev pub AreHeld : WordList → Type 0
+AreHeld list = (all : List (List ℕ)) × HoldsWords list all
 
 -- Words were read to their end, and these are kept of them; or why they were not.
 abbrev pub ReadsWords : Option (List ℕ) → Option (List ℕ) → Result WordList LoadFault → Type 0

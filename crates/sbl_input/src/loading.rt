@@ -1,12 +1,12 @@
 //! Loading a bench from an input: a script block, and then words.
-ghost use Rattle.std.specs.Prelude.{◌≡◌, ◌⊎◌, ◌≤◌, ℕ, List, None, Some, Err, IfOk, IfErr, OnOk, true, false};
+ghost use Rattle.std.specs.Prelude.{◌≡◌, ◌⊎◌, ◌≤◌, [], ℕ, List, None, Some, Err, IfOk, IfErr, OnOk, true, false};
 ghost use Rattle.std.specs.Str.{chars, is_utf8};
 ghost use Rattle.sbl_bench.specs.KeptRuns.{contents_of};
 ghost use Rattle.sbl_bench.specs.Contents.{Opens};
 ghost use Rattle.sbl_script.specs.ParsedScript.{source_of};
 ghost use Rattle.sbl_input.specs.LoadedRows.{AreRowsOf};
 ghost use Rattle.sbl_input.specs.VocabularyRows.{ReadsInput, RowsOpen};
-ghost use Rattle.sbl_input.specs.WordLists.{HoldsWords, ReadsWords};
+ghost use Rattle.sbl_input.specs.WordLists.{AreHeld, HoldsWords, ReadsWords};
 ghost use Rattle.std.specs.Io.KnownBytes.{Keeps};
 ghost use Rattle.sbl_io.specs.Faults.{serve_fault_of};
 ghost use Rattle.sbl_input.specs.Faults.{left_by_load};
@@ -81,9 +81,11 @@ fn ascii_characters(alloc: Global, line: &[u8]) -> Result<Vec<char>, LoadFault>
     Ok(word)
 }
 
-/// Reads the words, up to a line `.` or the end of input. Keeps only those that decide how a bench opens.
-fn read_words<R: Source + Drop>(lines: &mut Lines<R>, keys: WordKeys) -> Result<WordList, LoadFault>
+/// Reads the words into a list that has none, up to a line `.` or the end of input.
+fn read_words<R: Source + Drop>(lines: &mut Lines<R>, list: WordList) -> Result<WordList, LoadFault>
+    requires { HoldsWords list [] }
     ensures reads { lines.old.fault ≡ None → ReadsWords (input_of R.left lines.old) (input_of R.left lines.new) result }
+    ensures held { IfOk result (λ words. AreHeld words) }
     ensures remembered { lines.new.fault ≡ left_by_load result }
     ensures later { (R.tally lines.old.reader).failures ≤ (R.tally lines.new.reader).failures }
     ensures bound { reads_bound R.tally lines.new ≡ reads_bound R.tally lines.old }
@@ -91,7 +93,7 @@ fn read_words<R: Source + Drop>(lines: &mut Lines<R>, keys: WordKeys) -> Result<
     ensures why { IfErr result (λ fault. HasReason R.tally lines.old lines.new fault) }
     ensures in_time { KeepsTime R.tally lines.old lines.new }
 {
-    let mut words = WordList::new(lines.alloc(), keys);
+    let mut words = list;
     while lines.next_line()? {
         if lines.line() == b".".as_slice() {
             return Ok(words);
@@ -108,13 +110,16 @@ struct ParsedInput {
     words: WordList,
 }
 
-/// Reads the script block and the words of an input. Returns the faults that `load` returns before it opens a bench.
+/// Reads the script block of an input, and its words into a list that has none. Returns the faults that `load` returns before it opens
+/// a bench.
 fn read_input<R: Source + Drop>(
     lines: &mut Lines<R>,
-    keys: WordKeys,
+    list: WordList,
     external: &str,
 ) -> Result<ParsedInput, LoadFault>
+    requires { HoldsWords list [] }
     ensures reads { lines.old.fault ≡ None → ReadsInput (input_of R.left lines.old) (input_of R.left lines.new) external.now result }
+    ensures held { IfOk result (λ input. AreHeld input.words) }
     ensures bound { reads_bound R.tally lines.new ≡ reads_bound R.tally lines.old }
     ensures later { (R.tally lines.old.reader).failures ≤ (R.tally lines.new.reader).failures }
     ensures again { (fault : LineFault) → lines.old.fault ≡ Some fault → (result ≡ Err (LoadFault.Input (serve_fault_of fault))) × Keeps (input_of R.left lines.old) (input_of R.left lines.new) }
@@ -125,7 +130,7 @@ fn read_input<R: Source + Drop>(
 {
     let text = read_script(lines)?;
     let script = Script::parse(lines.alloc(), &text, external)?;
-    match read_words(lines, keys) {
+    match read_words(lines, list) {
         Ok(words) => Ok(ParsedInput { script, words }),
         Err(fault) => {
             script.discard();
@@ -221,7 +226,8 @@ pub fn load_observed<R: Source + Drop, P: Progress>(
     ensures again { (fault : LineFault) → lines.old.fault ≡ Some fault → (result ≡ Err (LoadFault.Input (serve_fault_of fault))) × Keeps (input_of R.left lines.old) (input_of R.left lines.new) }
     ensures bound { reads_bound R.tally lines.new ≡ reads_bound R.tally lines.old }
 {
-    let ParsedInput { script, words } = read_input(lines, keys, external)?;
+    let list = WordList::new(lines.alloc(), keys);
+    let ParsedInput { script, words } = read_input(lines, list, external)?;
     match open_words(lines.alloc(), keys, script, words, progress) {
         Ok(bench) => Ok(bench),
         Err(fault) => Err(LoadFault::Open(fault)),
@@ -229,18 +235,12 @@ pub fn load_observed<R: Source + Drop, P: Progress>(
 }
 
 /// Returns the text of the rows of words that were read. Returns `WordTooLong`, `Full` and `OutOfMemory` as `Bench::open` does.
-fn rows_of_words(
-    alloc: Global,
-    keys: WordKeys,
-    script: &Script,
-    words: WordList,
-) -> Result<Vec<u8>, EditFault>
+fn rows_of_words(alloc: Global, script: &Script, words: WordList) -> Result<Vec<u8>, EditFault>
+    requires { AreHeld words }
     ensures { (all : List (List ℕ)) → HoldsWords words all → RowsOpen (source_of script.now) all (λ text bytes. bytes.items ≡ text) result }
 {
-    match words.into_words() {
-        Ok(words) => vocabulary_rows(alloc, keys, script, words),
-        Err(_) => Err(EditFault::OutOfMemory),
-    }
+    let words = words.into_vocabulary()?;
+    Ok(vocabulary_rows(alloc, script, words)?)
 }
 
 /// Returns the text of the rows of an input, as `rows_text` has them for the bench that `load` makes of it. Makes no bench, so that
@@ -264,8 +264,9 @@ pub fn load_rows<R: Source + Drop>(
     ensures again { (fault : LineFault) → lines.old.fault ≡ Some fault → (result ≡ Err (LoadFault.Input (serve_fault_of fault))) × Keeps (input_of R.left lines.old) (input_of R.left lines.new) }
     ensures steady { OnOk result ((R.tally lines.new.reader).failures ≡ (R.tally lines.old.reader).failures) }
 {
-    let ParsedInput { script, words } = read_input(lines, keys, external)?;
-    let rows = rows_of_words(lines.alloc(), keys, &script, words);
+    let list = WordList::distinct(lines.alloc(), keys);
+    let ParsedInput { script, words } = read_input(lines, list, external)?;
+    let rows = rows_of_words(lines.alloc(), &script, words);
     script.discard();
     match rows {
         Ok(rows) => Ok(rows),

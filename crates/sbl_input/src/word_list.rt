@@ -1,13 +1,16 @@
 //! The words of a vocabulary while they are read.
-ghost use Rattle.std.specs.Prelude.{◌≡◌, ◌∷◌, ◌++◌, ◌&&◌, [], ℕ, List, None, length, map, is_some, nat_le, not, OnOk, IfOk};
-ghost use Rattle.sbl_bench.specs.Contents.{max_words, word_fault};
+ghost use Rattle.std.specs.Prelude.{◌≡◌, ◌∷◌, ◌++◌, ◌&&◌, [], ℕ, List, None, length, map, is_some, nat_le, not, OnOk, IfOk, IfErr};
+ghost use Rattle.sbl_bench.specs.Contents.{IsFaultOrMemory, max_words, opening_fault, word_fault};
 ghost use Rattle.sbl_bench.specs.Vocabulary.{is_word, vocabulary, with_word};
-ghost use Rattle.sbl_input.specs.WordLists.{AreDistinct, AreKept, HasRoom, HoldsWords, KeepsWord, OpensAs, texts_in, texts_of};
+ghost use Rattle.sbl_input.specs.WordLists.{AreDistinct, AreKept, HasRoom, HoldsWords, IsVocabulary, KeepsWord, OpensAs, texts_in, texts_of};
 
 use indexmap::IndexSet;
-use sbl_bench::{MAX_WORDS, WordKeys, word_fault};
+use sbl_bench::{EditFault, MAX_WORDS, WordKeys, word_fault};
 use std::alloc::{AllocError, Global};
 use std::mem;
+
+/// The number of words for which room is made at first. A vocabulary that has more makes the set grow.
+const USUAL_WORDS: usize = 32_768;
 
 /// The words so far that decide how a bench opens, and the first word that a bench refuses. Empty words and the words after that
 /// one are not kept.
@@ -28,7 +31,7 @@ enum KeptWords {
 }
 
 impl WordList {
-    /// Returns the list of no words. If words are found by a hash, it has these keys. Does not allocate.
+    /// Returns the list of no words for a bench. If words are found by a hash, it has these keys. Does not allocate.
     pub(crate) fn new(alloc: Global, keys: WordKeys) -> WordList
         ensures { HoldsWords result [] }
     {
@@ -36,6 +39,22 @@ impl WordList {
             alloc,
             keys,
             words: KeptWords::Plain(Vec::new(alloc)),
+            refused: None,
+        }
+    }
+
+    /// Returns the list of no words, which keeps no repeats. Words are found by a hash with these keys. Makes room for the words of
+    /// an ordinary vocabulary, if there is memory.
+    pub(crate) fn distinct(alloc: Global, keys: WordKeys) -> WordList
+        ensures { HoldsWords result [] }
+    {
+        let mut words = IndexSet::with_hasher(alloc, keys);
+        // (if there is no memory now, a word that is appended says so)
+        let _ = words.reserve(USUAL_WORDS);
+        WordList {
+            alloc,
+            keys,
+            words: KeptWords::Distinct(words),
             refused: None,
         }
     }
@@ -74,6 +93,28 @@ impl WordList {
             list.push(word).map_err(|_| AllocError)?;
         }
         Ok(list)
+    }
+
+    /// Returns the vocabulary of all the words that were appended. Returns `WordTooLong` and `Full` as `Bench::open` does with them,
+    /// or `OutOfMemory` if an allocation fails.
+    pub(crate) fn into_vocabulary(self) -> Result<IndexSet<Vec<char>, WordKeys>, EditFault>
+        ensures ok { IfOk result (λ set. (all : List (List ℕ)) → HoldsWords self all → IsVocabulary (texts_of set.keys) all) }
+        ensures fault { IfErr result (λ f. (all : List (List ℕ)) → HoldsWords self all → IsFaultOrMemory (opening_fault [] all) f) }
+    {
+        let WordList {
+            alloc,
+            keys,
+            words,
+            refused,
+        } = self;
+        let set = words.into_set(alloc, keys)?;
+        if let Some(word) = refused {
+            let text = word.as_slice();
+            if let Some(fault) = word_fault(text, has_no_room(&set, text)) {
+                return Err(fault);
+            }
+        }
+        Ok(set)
     }
 }
 
@@ -121,6 +162,20 @@ impl KeptWords {
         match self {
             KeptWords::Plain(words) => Ok(words),
             KeptWords::Distinct(words) => words.into_iter().collect(alloc),
+        }
+    }
+
+    /// Returns the words without repeats. Returns `AllocError` if an allocation fails.
+    fn into_set(
+        self,
+        alloc: Global,
+        keys: WordKeys,
+    ) -> Result<IndexSet<Vec<char>, WordKeys>, AllocError>
+        ensures { IfOk result (λ set. AreDistinct self → texts_of set.keys ≡ vocabulary (texts_in self)) }
+    {
+        match self {
+            KeptWords::Plain(words) => distinct(alloc, keys, words),
+            KeptWords::Distinct(words) => Ok(words),
         }
     }
 }

@@ -11,7 +11,7 @@ use Rattle.sbl_input.proofs.loading.read_words.Goals as goal
 
 pub loop-words-init : goal.loop-words-init
 loop-words-init g c =
-    ([], tt, tt, took-none _, c.new-words.ensures, refl, omega arith, tt, refl, (λ timely. timely), refl)
+    ([], tt, tt, took-none _, c.requires, refl, omega arith, tt, refl, (λ timely. timely), refl)
 
 pub returns-in_err-word-clause-reads : goal.returns-in_err-word-clause-reads
 returns-in_err-word-clause-reads g c = λ _.
@@ -78,3 +78,9 @@ returns-then-eq-clause-steady g c = c.in_ok-next_line.ensures.steady ∙ c.loop-
 
 pub returns-clause-steady : goal.returns-clause-steady
 returns-clause-steady g c = c.in_ok-next_line.ensures.steady ∙ c.loop-words.invariant.10
+
+pub returns-then-eq-clause-held : goal.returns-then-eq-clause-held
+returns-then-eq-clause-held g c = (map chars c.loop-words.invariant.0, c.loop-words.invariant.4)
+
+pub returns-clause-held : goal.returns-clause-held
+returns-clause-held g c = (map chars c.loop-words.invariant.0, c.loop-words.invariant.4)
