@@ -11,6 +11,7 @@ from voltizug import keys
 from .kit import CLIENT, FAKE, LOOP, Case, alive, example, write
 
 AUTHOR, WORDS = example("author.sbl"), example("author.words")
+PLAIN = "externals ( stem )\ndefine stem as true\n"
 
 
 class Sessions(Case):
@@ -443,6 +444,78 @@ define stem as backwards ( do r do s )
         self.assertEqual(terminal.enter("mark my.stems"), "no word and no class differs from the mark")
         terminal.save("x\n" * 9, "my.stems")
         self.assertIn("has 9 lines, and there are 8 words: it needs a line for each word. The mark stays.", terminal.enter("mark my.stems"))
+
+    def test_stems_are_those_of_the_lines_of_the_words(self):
+        """A word that was taken out and added again comes last; and a list that grows in the middle has other lines than the stems."""
+        terminal = self.begin(PLAIN, "b\nc\nd\ne\nf\ng\n")
+        order = "They are not in the order of the lines of my.words, as check and mark need them: words reads it again, and then approve."
+        self.assertEqual(terminal.enter("remove b", "add b", "approve s1").split("\n")[-1], order)
+        self.assertEqual(terminal.enter("remove b", "approve s2").split("\n")[-1], order)
+        self.assertEqual(terminal.enter("words", "approve s3").split("\n")[-1], "The stems are in s3.")
+        terminal.save("b\nc\nca\nd\ne\nf\ng\n", "my.words")
+        shown = terminal.enter("words", "mark s3")
+        self.assertIn("s3 has 6 lines, and there are 7 words. It seems that words were put in before ca: then each stem after it would be", shown)
+        self.assertIn("4 words, ", terminal.enter("mark s3"))
+        terminal.save("b\nb\nc\n\n", "my.words")
+        said = "my.words has 2 lines that no stem is written for (empty, or there before), so check does not take these stems."
+        self.assertEqual(terminal.enter("words", "approve s4").split("\n")[-1], said)
+
+    def test_stems_in_another_form_of_unicode(self):
+        terminal = self.begin(PLAIN, "b\u00eal\nc\n")
+        terminal.save("be\u0302l\nc\n", "my.stems")
+        self.assertIn("my.stems:1: a letter and its accent are two characters (NFD)", terminal.enter("mark my.stems"))
+        terminal.save("\ufeffb\u00eal\nc\n", "my.stems")
+        self.assertIn("my.stems begins with a byte order mark, which is part of its first stem.", terminal.enter("mark my.stems"))
+
+    def test_another_script_that_is_not_utf_8(self):
+        terminal = self.begin()
+        terminal.save("externals ( stem )\n".encode("utf-16"), "other.sbl")
+        shown = terminal.enter("replace other.sbl").replace("\n    ", " ")
+        self.assertIn("iconv -f utf-16 -t utf-8 other.sbl > NEW. Then, if NEW is right: mv NEW other.sbl", shown)
+        self.assertNotIn("my.sbl", shown)
+
+    def test_an_editor_goes_on_from_what_was_saved(self):
+        """Then nothing of it was replaced; it was if the editor had an older text."""
+        script = "externals ( stem ) routines ( r s )\ndefine r as 'x'\ndefine s as 'y'\ndefine stem as ( r s )\n"
+        terminal = self.begin(script, "abc\n")
+        terminal.enter("routine r", "'xx'", ".", "routine s", "'yy'", ".", "save my.sbl")
+        with open(os.path.join(self.folder, "my.sbl"), encoding="utf-8") as file:
+            typed = file.read()
+        terminal.save(typed.replace("'yy'", "'yyy'"))
+        self.assertNotIn("replaced", terminal.enter(""))
+        terminal.enter("routine r", "'xxx'", ".", "save my.sbl")
+        terminal.save(script)
+        self.assertIn("replaced: r", terminal.enter(""))
+
+    def test_what_is_no_command(self):
+        terminal = self.begin(PLAIN, "b\nc d\n")
+        perhaps = "This is no command, but of a script, perhaps, and no block is open: routine NAME, among NAME K or grouping NAME opens one."
+        for line in ("delete", "$p1 = limit", "do r", "[substring]"):
+            self.assertEqual(terminal.enter(line), perhaps, line)
+        for line, said in (
+            (":w", "save FILE writes the current script."), ("sudo ls", "sudo is a command of a shell: use another window."),
+            ("page", "page is not a command here. In a shell: "), ("find x$", "(these are letters, and no pattern)"),
+            ("class e f", "e f is not in the vocabulary. \"why e f\" shows how it would be stemmed."), ("undo", "There is no edit to undo."),
+        ):
+            self.assertIn(said, terminal.enter(line), line)
+        self.assertIn("There is no edit to undo. add WORD puts a word back, as the last one.", terminal.enter("remove b", "undo"))
+        terminal.save("", "my.families")
+        self.assertEqual(terminal.enter("families my.families"), "my.families has no words: a family is a line of words that belong together.")
+        self.assertEqual(terminal.enter("families my.sbl"), "my.sbl looks like a script: a family is a line of words that belong together.")
+
+    def test_lints_on_signs(self):
+        """Of groupings, of other signs of insertions than {}, and of capitals; and where an external would be forwards."""
+        words = "".join("b%s%sing\n" % (a, b) for a in "abcdefgh" for b in "aeiou") + "".join("c%sxx\n" % a for a in "abcdefghijkl")
+        script = "externals ( stem ) groupings ( v )\ndefine v 'a-eiou'\ndefine stem as ( v %s [substring] among ( 'ing' 'ng' 'g' 'ding' (delete) ) )\n"
+        terminal = self.begin(script % "'{e}'", words)
+        self.assertIn("my.sbl:2:10: the grouping has -, which no word has and no command puts in", terminal.enter("lint"))
+        self.assertIn("perhaps its body should be backwards ( .. )", terminal.enter("lint"))
+        terminal.save("stringescapes []\n" + script % "'{e}'")
+        self.assertIn("'{e}' has { and } as letters: no stringescapes {} is above it", terminal.enter("", "lint"))
+        capitals = self.begin(script % "'a'", words.upper())
+        shown = capitals.enter("lint").replace("\n    ", " ")
+        self.assertIn("have capitals, as 'BAAING', and no string of an among has one. For small letters: sed 's/.*/\\L&/' WORDS > NEW", shown)
+        self.assertNotIn("forwards", shown)
 
     def test_the_one_warning_that_ends_the_start(self):
         self.begin(words="\ufeffcats\n%s\ndogs \n" % ("x" * 300), columns=80)

@@ -292,8 +292,11 @@ class Bench(Stage):
             self.aside = [(other, names) for other, names in self.aside if other != before.text]
         if word == "reload":
             self.note_file()
-            if before.text != text and self.is_unsaved(before.text) and not self.has_saved(before.text, text):
-                aside = typed_names(history)
+            names, was_saved = typed_names(history), hash(before.text) in self.replaced
+            lost = self.lost(names, before.text)
+            is_aside = before.text != text and self.is_unsaved(before.text) and not self.has_saved(before.text, text)
+            if is_aside and (lost or not (names and was_saved)):
+                aside = lost or names
                 self.aside.append((before.text, aside))
                 self.replaced.setdefault(hash(before.text), former)
                 self.kept.keep("aside.base", base or b"")
@@ -301,6 +304,14 @@ class Bench(Stage):
             self.read_texts.add(hash(text))
         self.keep(done)
         return aside
+
+    def lost(self, names: Sequence[str], before: bytes) -> Tuple[str, ...]:
+        """Returns those of the names of typed definitions that are other ones now. What was saved is lost only if it is as SCRIPT had it before: an
+        editor may have gone on from it."""
+        places, was_saved, former = self.places(), hash(before) in self.replaced, list(self.replaced.values())
+        now = {name: places.text[int(row.start) : int(row.end)] for name, row in places.definitions.items()}
+        is_back = {name: not was_saved or any(part in text for text in former) for name, part in now.items()}
+        return tuple(name for name in names if name not in now or now[name] not in before and is_back[name])
 
     def keep(self, history: Sequence[Any]) -> None:
         """Keeps what was typed for the case that the terminal is closed: the room has the current text, and the last one that was replaced."""

@@ -40,14 +40,20 @@ NO_FILE += [(r"(?!uses )(?:%s) (?:(?:.* )?(?:\||>>) .|.* >\Z)|(?:%s) (?:\||>>?)\
 NO_FILE += [(r"help (?:.* )?[>|]", "help goes into no file: docs/REFERENCE.md describes all commands.")]
 # How a comment and a declaration of a script begin.
 COMMENT, DECLARATION = r"\s*(//|/\*)", r"(%s)( |\Z)" % "|".join(word for word in ITEMS if word != "define")
+# The commands of Snowball that are none of `work`.
+OF_SCRIPT = [word for word in sorted(RESERVED) if word not in COMMANDS and word not in ITEMS and word.isalpha()]
 # By the beginning of a line that is no command what is said of it. {c} is its first word.
-IN_SHELL = {"check": "SCRIPT WORDS STEMS", "compare": "OLD NEW WORDS", "filter": "SCRIPT < WORDS", "run": "SCRIPT WORDS", "work": "SCRIPT WORDS"}
+IN_SHELL = {
+    "check": "SCRIPT WORDS STEMS", "compare": "OLD NEW WORDS", "filter": "SCRIPT < WORDS", "run": "SCRIPT WORDS", "work": "SCRIPT WORDS",
+    "page": "SCRIPT WORDS", "report": "OLD NEW WORDS", "session": "< SESSION", "doctor": "", "lsp": "",
+}
 STRANGE: Sequence[Tuple[str, str]] = (
     (".*[\udc80-\udcff]", "The line is not UTF-8. Set the terminal to UTF-8 and type it again."),
     (r"\s*\.\s*\Z", "A line with a single point ends a block, and no block is open."),
     (r"(q|:q|:q!|:wq|bye|exit!)( |\Z)", "quit or Ctrl-D ends."),
+    (r":w( |\Z)", "save FILE writes the current script. quit or Ctrl-D ends."),
     (r"clear( |\Z)", "Ctrl-L clears the screen. quit or Ctrl-D ends."),
-    (r"!|(ls|cd|cat|vi|vim|nano|emacs|grep|less|git|man|tail|head|wc|(\S*/)?snowbench)( |\Z)", "{c} is a command of a shell: use another window."),
+    (r"!|(sudo|cp|mv|rm|touch|mkdir|python3?|ls|cd|cat|vi|vim|nano|emacs|grep|less|git|man|tail|head|wc|(\S*/)?snowbench)( |\Z)", "{c} is a command of a shell: use another window."),
     (r"edit( |\Z)", "Change the script in your editor, and save it; or type routine NAME, among NAME K or grouping NAME, and the new text."),
     (r"(list|print|dump)( |\Z)", "stems lists the words and their stems, classes the classes, script the script."),
     (r"diff( |\Z)", "changes lists what differs from the mark."),
@@ -56,10 +62,10 @@ STRANGE: Sequence[Tuple[str, str]] = (
     (r"steps( |\Z)", "why WORD shows how many steps its run takes; limit N sets how many a run may take."),
     (r"watch( |\Z)", "work --watch reads each save by itself. If this one does not, quit and start it so."),
     (r"warnings( |\Z)", "lint lists what may not be meant in the script and the words."),
-    *((r"%s( |\Z)" % verb, "{c} is not a command here. In a shell: {called} {c} %s." % files) for verb, files in IN_SHELL.items()),
+    *((r"%s( |\Z)" % verb, ("{c} is not a command here. In a shell: {called} {c} %s" % files).rstrip() + ".") for verb, files in IN_SHELL.items()),
     (r"(%s)\s*>" % REPORT, INTO_FILE),
     (COMMENT, "A comment begins with # at the beginning of the line. replace takes a whole script, up to a line with a single point."),
-    (r"\s*[\[\](')]", "This is no command, but of a script, perhaps, and no block is open: routine NAME, among NAME K or grouping NAME opens one."),
+    (r"\s*([\[\](')$]|(%s)( |\Z))" % "|".join(OF_SCRIPT), "This is no command, but of a script, perhaps, and no block is open: routine NAME, among NAME K or grouping NAME opens one."),
     (r"define( |\Z)", "A definition begins with define NAME as, or define NAME and the terms of a grouping, in one line."),
     (DECLARATION, "This looks like a script. replace takes a whole one, up to a line with a single point."),
 )

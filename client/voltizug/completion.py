@@ -39,7 +39,8 @@ class Completion:
         if command in COMMANDS and COMMANDS[command].takes in ("WORD", "STEM") and command != "add":
             return self.words(rest, command == "stem")
         if command in NAMED and len(words) == 1:
-            return [name + " " * (has_among and places.count(name) > 0) for name in places.of_kind(*NAMED[command])]
+            names = [name for name in places.of_kind(*NAMED[command]) if command != "among" or places.count(name)]
+            return [name + " " * (has_among and places.count(name) > 0) for name in names]
         if has_among and len(words) == 2:
             return map(str, range(1, places.count(words[0]) + 1))
         is_string = command == "uses" and len(words) == 3

@@ -214,7 +214,8 @@ class Desk:
 
     def show_fault(self, said: Sequence[str], lines: Sequence[str] = ()) -> None:
         """Shows what is said of the script, or of a block, which has more than one line."""
-        bench, script, tokens, typed = self.bench, self.bench.script, [], None  # type: Bench, str, List[rows.Token], Any
+        bench, tokens, typed = self.bench, [], None  # type: Bench, List[rows.Token], Any
+        script = lines[0][8:] if lines and lines[0].startswith("replace ") else bench.script
         if faults.needs_tokens(said):
             tokens, block = bench.tokens_of(script), "".join(line + "\n" for line in lines[1:-1]).encode("utf-8", "surrogateescape")
             typed = (block, bench.tokens_of(bench.kept.keep("typed", block))) if block else None

@@ -49,7 +49,9 @@ def advice(line: str, source: str, carets: str, text: bytes) -> str:
     word = [*source.split(), ""][0]
     if line.endswith(" the name that is inserted here") and "^" in carets:
         name = source[carets.index("^") + 1 :].partition("}")[0]
-        names = re.findall(r"\bstringdef\s+(\S+)", text.decode("utf-8", "replace"))
+        if code := re.fullmatch(r"[uU]\+?([0-9A-Fa-f]{1,6})", name):
+            return ". Did you mean {U+%s}?" % code[1]
+        names = list(dict.fromkeys(re.findall(r"\bstringdef\s+(\S+)", text.decode("utf-8", "replace"))))
         return "." * bool(near(name, names)) + meant(name, names)
     unknown = re.search(r": (\w+) is not declared\. Declare it\b.*, or use another name\.\Z", line)
     if unknown and re.search(r"(\[\s*|<-\s*|<\+\s*)%s\b" % unknown[1], source):

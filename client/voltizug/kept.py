@@ -120,6 +120,13 @@ def read_lines(path: Optional[str]) -> List[bytes]:
     return (read_file(path) or b"").splitlines()
 
 
+def read_words(path: Optional[str]) -> List[bytes]:
+    """Returns the lines of a list of words as the program reads them."""
+    text = (read_file(path) or b"").removeprefix(b"\xef\xbb\xbf")
+    lines = text.split(b"\n")
+    return [line.removesuffix(b"\r") for line in (lines[:-1] if not lines[-1] else lines)]
+
+
 def is_same(path: str, other: Optional[str]) -> bool:
     with contextlib.suppress(OSError, ValueError):
         return bool(other) and os.path.samefile(path, other or "")

@@ -2,6 +2,7 @@
 import re
 import unicodedata
 from collections import Counter
+from operator import ne
 from typing import Any, Dict, List, Optional, Sequence, Tuple
 
 from . import rows
@@ -83,6 +84,20 @@ def sizes(figures: Dict[str, int]) -> str:
 
 def listed(names: Sequence[str]) -> str:
     return ", ".join(map(quoted, names))
+
+
+def shifted(stems: Sequence[bytes], now: Sequence[bytes]) -> Optional[int]:
+    """Returns the number of the first word that was put in among those whose stems these are, if far more stems are the same then; or nothing."""
+    if len(stems) >= len(now):
+        return None
+    first, at, left, others = None, 0, len(now) - len(stems), 0  # type: Optional[int], int, int, int
+    for i, stem in enumerate(stems):
+        if left and stem != now[at]:
+            by = next((by for by in range(1, min(left, 50) + 1) if list(stems[i : i + 3]) == list(now[at + by : at + by + 3][: len(stems) - i])), 0)
+            first, at, left = (at if by and first is None else first), at + by, left - by
+        others += stem != now[at]
+        at += 1
+    return first if first is not None and 2 * others < sum(map(ne, stems, now)) > 2 else None
 
 
 def in_words(names: Sequence[str], last: str, most: int = 20) -> str:

@@ -126,7 +126,7 @@ def is_first(before: Sequence[str]) -> bool:
 
 def plain_braces(script: Script) -> Iterable[Lint]:
     """The first literal with {..} above which there are no insert characters."""
-    above = takewhile(lambda token: token.text != "stringescapes", script.tokens)
+    above = takewhile(lambda token: (token.kind, token.text) != ("inserts", "{}"), script.tokens)
     for token in [token for token in above if token.kind == "literal" and re.search("{.*}", token.text)][:1]:
         yield token.start, "%s has { and } as letters: no stringescapes {} is above it" % short(token.text)
 
@@ -299,13 +299,19 @@ def strange_strings(script: Script, outcomes: Sequence[Outcome]) -> Iterable[Lin
     starts = {token.start for body in script.bodies.values() for token in body}
     strings = {token.start: value for token, value, is_put in found if not is_put and token.start in starts}
     strings.update({int(row.start): string for (_, _, string), row in script.places.entries.items()})
+    # (of groupings, which have letters of words that are not in the list, only signs and capitals)
+    members = {token.start for name in script.places.of_kind("grouping") for token in script.places.part(name)} - starts
+    odd = {start: "".join(c for c in value if unicodedata.category(c) == "Lu" or unicodedata.category(c)[0] in "CNPSZ")
+           for start, value in ((token.start, value) for token, value, _ in found if token.start in members)}
+    strings.update({start: value for start, value in odd.items() if not there.issuperset(value)})
     # (`unused` names the strings of amongs)
     entries, whole = {int(row.start) for row in script.places.entries.values()}, "\n".join(texts)
     for start, string in sorted(strings.items()) if outcomes else []:
         strange = list(map(letter, sorted(set(string) - there)))
         # (of those in another form of Unicode a warning speaks once)
         if strange and len(composed(string)) == len(string):
-            yield start, "'%s' has %s, which no word has and no command puts in" % (short(string), in_words(strange, "and", 6))
+            where = "the grouping" if start in members else "'%s'" % short(string)
+            yield start, "%s has %s, which no word has and no command puts in" % (where, in_words(strange, "and", 6))
         elif not strange and start not in entries and string not in whole:
             yield start, "no word and no stem has '%s'" % short(string)
 
@@ -362,12 +368,14 @@ def wrong_ways(script: Script, bench: Bench, outcomes: Sequence[Outcome]) -> Ite
         False: "{0} runs forwards, and {1} of these strings, as '{2}', only end words: perhaps it should be defined in backwardmode, and called by backwards {0}",
         True: "{0} runs backwards, and {1} of these strings, as '{2}', only begin words: perhaps it should be defined outside of backwardmode",
     }
+    external = "{0} runs forwards, and {1} of these strings, as '{2}', only end words: perhaps its body should be backwards ( .. )"
     for (name, k), there in ((key, there) for key, there in strings.items() if key[0] in items):
         start, is_back = int(places.amongs[name, k].start), items[name].is_backward
         near, far = (ends, begins) if is_back else (begins, ends)
         odd = [string for string in there if (name, k, string) in untaken and string in far and string not in near]
         if 2 * len(odd) >= max(4, len(there)) and not any(token.text == "backwards" and token.start < start for token in places.part(name)):
-            yield start, what[is_back].format(name, len(odd), short(odd[0]))
+            is_external = not is_back and script.names.kinds.get(name) == "external"
+            yield start, (external if is_external else what[is_back]).format(name, len(odd), short(odd[0]))
 
 
 def strange_words(script: Script, outcomes: Sequence[Outcome]) -> List[str]:
@@ -379,7 +387,7 @@ def strange_words(script: Script, outcomes: Sequence[Outcome]) -> List[str]:
     empty = [row.word for row in outcomes if (row.kind, row.stem) == ("stem", "")]
     many = "{:,} of {:,} words {} {}, as '{}'{}"
     return [many.format(len(found), len(outcomes), "has" if len(found) == 1 else "have", what, short(found[0]), then) for found, what, then in (
-        (large, "capitals", ", and no string of an among has one"),
+        (large, "capitals", ", and no string of an among has one. For small letters: sed 's/.*/\\L&/' WORDS > NEW"),
         (signed if 2 * len(signed) > len(outcomes) else [], "a sign that is no letter", ", and no literal has it"), (empty, "the empty stem", ""),
     ) if found]
 
@@ -396,7 +404,9 @@ def lints(bench: Bench, has_all: bool = False) -> List[str]:
     found += stopping_calls(script, bench, [start for start, _ in found]) if sees_words and sees_runs else []
     found += strange_strings(script, outcomes) if has_all or bench.size >= FEW else []
     found += put_blanks(script, outcomes)
-    found += wrong_ways(script, bench, outcomes) if outcomes and script.places.entries and sees_runs else []
+    # (of words in capitals no string says where it is)
+    is_small = 2 * sum(row.word != row.word.lower() for row in outcomes) <= len(outcomes)
+    found += wrong_ways(script, bench, outcomes) if outcomes and script.places.entries and sees_runs and is_small else []
     beyond = [token for token in script.tokens if has_all and token.kind == "literal" and not token.text.isascii()]
     others = " (and {})".format(counted(len(beyond) - 1, "more literal")) if len(beyond) > 1 else ""
     asked = ": other compilers ask for its code, as {U+%04X} after stringescapes {}"

@@ -123,6 +123,7 @@ class Terminal(Desk):
     def reply_find(self, text: str, lines: Sequence[str]) -> List[str]:
         there = [row.word + "\n" + row.stem for row in self.bench.outcomes()] if not lines and not text.isascii() else []
         other = " in this form of Unicode (NFC and NFD are different words)" * any(composed(text) in composed(names) for names in there)
+        other = other or " (these are letters, and no pattern)" * bool(re.search(r"[][^$.*+?|\\]", text))
         return [reports.EMPTY["find"] + other] if not lines else reports.laid_out("find", lines, self.bench.places)
 
     def reply_remove(self, word: str, _: Sequence[str]) -> List[str]:
@@ -160,6 +161,8 @@ class Terminal(Desk):
     def reply_families(self, path: str, lines: Sequence[str]) -> List[str]:
         mark = ["%s begins with a byte order mark, which is part of its first word." % short(path)] * (kept.read_file(path) or b"").startswith(BOM)
         text, there = (kept.read_file(path) or b"").decode("utf-8", "surrogateescape"), self.bench.by_word()
+        if not text.strip() or re.search(r"\bexternals\s*\(", text):
+            return ["%s %s: a family is a line of words that belong together." % (short(path), "looks like a script" if text.strip() else "has no words")]
         strange = [word for word in re.split("[ \t\r\n,]+", text) if word and word not in there][:1]
         first = ["The first word that is not in the vocabulary is %s." % words.in_quotes(word) for word in strange]
         families = Counter(word for line in text.splitlines() for word in dict.fromkeys(re.split("[ \t,]+", line)) if word)
@@ -208,11 +211,20 @@ class Terminal(Desk):
         stems, outcomes, line = kept.read_lines(path), self.bench.outcomes(), ("mark " + path).rstrip()
         new, whole, said = outcomes[len(stems) :] if stems else [], path, ""
         sizes = words.lines_and_words(path, len(outcomes))
-        others = sum(stem != encoded(row.stem) for stem, row in zip(stems, outcomes))
+        now = [encoded(row.stem) for row in outcomes]
+        others, shifted = sum(map(ne, stems, now)), layout.shifted(stems, now)
         doubt = sizes + ". " if len(stems) != len(outcomes) else ""
         doubt += "Most lines of %s are other stems. It needs the stems alone, one on a line, in the order of the words: the same line again takes it." % short(path)
-        if not self.is_sure(line, doubt if 2 * others > len(stems) <= len(outcomes) else ""):
+        moved = "%s. It seems that words were put in before %s: then each stem after it would be compared with that of another word. Put new words "
+        moved += "at the end, or approve the stems again. The same line again takes them as they are."
+        if shifted is not None:
+            doubt = moved % (sizes, words.in_quotes(outcomes[shifted].word))
+        if not self.is_sure(line, doubt if 2 * others > len(stems) <= len(outcomes) or shifted is not None else ""):
             return
+        text = b"\n".join(stems).decode("utf-8", "surrogateescape")
+        mark = ["%s begins with a byte order mark, which is part of its first stem." % short(path)] * text.startswith("\ufeff")
+        is_other = not any(map(warn.DECOMPOSED[0], (row.stem for row in outcomes)))
+        self.screen.say(*mark, *(warn.on_lines(layout.named(path), path, text, warn.DECOMPOSED) if path and is_other else []))
         if new and all(row.kind == "stem" for row in new):
             whole = self.bench.kept.keep("stems", b"\n".join([*stems, *(encoded(row.stem) for row in new)]))
             said = sizes + ": the mark has the others as they are now."
@@ -251,7 +263,7 @@ class Terminal(Desk):
         elif self.is_done(reply, line) and command == "approve":
             now = kept.read_lines(path)
             others = " %s other than before." % counted(sum(map(ne, stems, now)), "stem is", "stems are")
-            self.screen.say("The stems are in %s." % name + others * (0 < len(stems) == len(now)), self.unkept_words())
+            self.screen.say("The stems are in %s." % name + others * (0 < len(stems) == len(now)), self.unkept_words(), self.unlike_words())
         elif reply.is_done:
             lost = comments - self.comments(path)
             # (of the parts that were typed, or of a change of SCRIPT that undo took back)
@@ -389,6 +401,15 @@ class Terminal(Desk):
         self.doubted = "" if is_sure else line
         self.screen.say(*([] if is_sure else doubts))
         return is_sure
+
+    def unlike_words(self) -> str:
+        """Returns the sentence on stems that are not one for each line of WORDS, in its order; nothing if they are."""
+        path, lines = short(self.bench.words or ""), kept.read_words(self.bench.words)
+        distinct, now = list(dict.fromkeys(filter(None, lines))), [encoded(row.word) for row in self.bench.outcomes()]
+        if now[: len(distinct)] != distinct:
+            return "They are not in the order of the lines of %s, as check and mark need them: words reads it again, and then approve." % path
+        more = "%s has %s that no stem is written for (empty, or there before), so check does not take these stems." % (path, counted(len(lines) - len(distinct), "line"))
+        return more if len(lines) != len(distinct) else ""
 
     def unkept_words(self, then: str = "") -> str:
         """Returns the sentence on words that were added and that no file has; nothing if there are none."""

@@ -38,6 +38,8 @@ OF_WORDS: Dict[int, str] = {
     72: "{name} has a line of more than 65,536 bytes.",
     75: "{name} is not UTF-8.",
 }
+# By what was done to the words last what is said of `undo`, which takes back edits of the script alone.
+WORDS_AFTER = {"add": " remove WORD takes an added word out.", "remove": " add WORD puts a word back, as the last one."}
 # Why `save`, `approve` or `append` does not write to a file. {other} is what to do, {new} the same with a new file.
 MAY_NOT: Dict[str, str] = {
     "there": "{path} is there already, and {c} does not overwrite it. Nothing was written: {new}, or delete that one first.",
@@ -123,7 +125,7 @@ def absent(line: str, bench: Stage) -> str:
         return "%s is a stem and no word: stem %s shows its words." % (in_quotes(word), short(word))
     ways = ['"why {0}" shows how it would be stemmed'] * (not question and command not in ("remove", "why"))
     # (an editor, which has a Stage, adds no words)
-    ways += ['"add {0}" adds it'] * (isinstance(bench, Bench) and not same and command in ("class", "trace"))
+    ways += ['"add {0}" adds it'] * (isinstance(bench, Bench) and not same and command in ("class", "trace") and " " not in word)
     then = " %s." % ", ".join(ways).format(short(word)) if ways and word == word.strip() else ""
     return "%s is not in the vocabulary.%s%s" % (in_quotes(word), question, then)
 
@@ -238,6 +240,8 @@ def bad_file(line: str, bench: Stage) -> str:
         return "There is no file of words: add WORD adds a word."
     path = file_of(line, bench)
     # (after `reload` another file is no question: SCRIPT stays the file)
+    if command == "words":
+        return "%s cannot be read: %s The words that were read stay." % (short(path), unreadable(path))
     why = unreadable(path) if command != "reload" else unreadable(path).partition(".")[0] + ". The script that was read stays: save FILE keeps it."
     return "%s cannot be read: %s" % (short(path), why)
 
@@ -319,7 +323,7 @@ def may_not(why: str, command: str, path: str, then: str = "") -> str:
 
 # By the number of a refusal what makes its sentence of the line and the bench.
 SPECIAL: Dict[int, Callable[[str, Stage], str]] = {
-    54: lambda _, bench: SENTENCES[54] + " remove WORD takes an added word out." * bool(getattr(bench, "added", [])),
+    54: lambda _, bench: SENTENCES[54] + WORDS_AFTER.get("".join(bench.program.now.words[-1:]).partition(" ")[0], ""),
     75: lambda line, bench: "%s is not UTF-8. %s" % (short(file_of(line, bench)), converting(file_of(line, bench))),
     74: lambda line, bench: lines_and_words(file_of(line, bench), len(bench.outcomes())) + ": it needs a line for each word. The mark stays.",
     41: absent, 45: no_name, 46: amongs_of, 52: unknown, 53: no_name, 57: bad_file, 59: no_class, 67: no_stem,

@@ -1,4 +1,4 @@
--- While the rows of a vocabulary are made without a bench.
+-- The rows of a vocabulary that is loaded without a bench.
 use Rattle.std.specs.Prelude.{◌≡◌, ℕ, List, [], Option, None, Result, Ok, Err, map}
 use Rattle.std.specs.Str.{chars}
 use Rattle.sbl_ast.specs.Source.{Source}
@@ -22,7 +22,7 @@ ReadsInput old new external (Ok input) =
     (lines : List (List ℕ)) × IsInput old new external (source_of input.script) lines × HoldsWords input.words (map chars lines)
 ReadsInput old new external (Err f) = IsLoadFault old new external f
 
--- ---- while the rows are made
+-- ---- the rows
 
 -- the text of the rows of words
 abbrev pub text_of_rows : Source → List (List ℕ) → List ℕ

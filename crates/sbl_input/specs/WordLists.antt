@@ -24,7 +24,7 @@ pub record OpensAs (words all : List (List ℕ)) : Type 0 where
   pub faults : opening_fault [] words ≡ opening_fault [] all
   pub vocabularies : opening_fault [] all ≡ None → vocabulary words ≡ vocabulary all
 
--- Words without a fault, and the vocabulary of these: the one that a bench of all has.
+-- These words are the vocabulary of all, and neither of the two lists has a fault.
 pub record IsVocabulary (words all : List (List ℕ)) : Type 0 where
   pub all_fine : opening_fault [] all ≡ None
   pub fine : opening_fault [] words ≡ None
@@ -61,7 +61,7 @@ KeepsWord old word new =
 abbrev pub HoldsWords : WordList → List (List ℕ) → Type 0
 HoldsWords list all = AreKept (texts_in list.words) (option_map (λ w. w.items) list.refused) all × AreDistinct list.words
 
--- these are kept of some words
+-- it holds what is kept of some words
 abbrev pub AreHeld : WordList → Type 0
 AreHeld list = (all : List (List ℕ)) × HoldsWords list all
 

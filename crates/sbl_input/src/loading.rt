@@ -16,7 +16,7 @@ ghost use Rattle.sbl_input.specs.Loading.{HasReason, IsLoaded, ReadsScript};
 
 use crate::faults::LoadFault;
 use crate::vocabulary_rows::vocabulary_rows;
-use crate::word_list::WordList;
+use crate::word_list::{Repeats, WordList};
 use sbl_bench::{Bench, EditFault, NoProgress, Progress, WordKeys};
 use sbl_io::{Lines, ServeFault, Source};
 use sbl_reports::{BlockFault, read_block};
@@ -81,9 +81,12 @@ fn ascii_characters(alloc: Global, line: &[u8]) -> Result<Vec<char>, LoadFault>
     Ok(word)
 }
 
-/// Reads the words into a list that has none, up to a line `.` or the end of input.
-fn read_words<R: Source + Drop>(lines: &mut Lines<R>, list: WordList) -> Result<WordList, LoadFault>
-    requires { HoldsWords list [] }
+/// Reads the words, up to a line `.` or the end of input. Keeps only those that decide how a bench opens.
+fn read_words<R: Source + Drop>(
+    lines: &mut Lines<R>,
+    keys: WordKeys,
+    repeats: Repeats,
+) -> Result<WordList, LoadFault>
     ensures reads { lines.old.fault ≡ None → ReadsWords (input_of R.left lines.old) (input_of R.left lines.new) result }
     ensures held { IfOk result (λ words. AreHeld words) }
     ensures remembered { lines.new.fault ≡ left_by_load result }
@@ -93,7 +96,7 @@ fn read_words<R: Source + Drop>(lines: &mut Lines<R>, list: WordList) -> Result<
     ensures why { IfErr result (λ fault. HasReason R.tally lines.old lines.new fault) }
     ensures in_time { KeepsTime R.tally lines.old lines.new }
 {
-    let mut words = list;
+    let mut words = WordList::new(lines.alloc(), keys, repeats);
     while lines.next_line()? {
         if lines.line() == b".".as_slice() {
             return Ok(words);
@@ -110,14 +113,13 @@ struct ParsedInput {
     words: WordList,
 }
 
-/// Reads the script block of an input, and its words into a list that has none. Returns the faults that `load` returns before it opens
-/// a bench.
+/// Reads the script block and the words of an input. Returns the faults that `load` returns before it opens a bench.
 fn read_input<R: Source + Drop>(
     lines: &mut Lines<R>,
-    list: WordList,
+    keys: WordKeys,
+    repeats: Repeats,
     external: &str,
 ) -> Result<ParsedInput, LoadFault>
-    requires { HoldsWords list [] }
     ensures reads { lines.old.fault ≡ None → ReadsInput (input_of R.left lines.old) (input_of R.left lines.new) external.now result }
     ensures held { IfOk result (λ input. AreHeld input.words) }
     ensures bound { reads_bound R.tally lines.new ≡ reads_bound R.tally lines.old }
@@ -130,7 +132,7 @@ fn read_input<R: Source + Drop>(
 {
     let text = read_script(lines)?;
     let script = Script::parse(lines.alloc(), &text, external)?;
-    match read_words(lines, list) {
+    match read_words(lines, keys, repeats) {
         Ok(words) => Ok(ParsedInput { script, words }),
         Err(fault) => {
             script.discard();
@@ -226,8 +228,7 @@ pub fn load_observed<R: Source + Drop, P: Progress>(
     ensures again { (fault : LineFault) → lines.old.fault ≡ Some fault → (result ≡ Err (LoadFault.Input (serve_fault_of fault))) × Keeps (input_of R.left lines.old) (input_of R.left lines.new) }
     ensures bound { reads_bound R.tally lines.new ≡ reads_bound R.tally lines.old }
 {
-    let list = WordList::new(lines.alloc(), keys);
-    let ParsedInput { script, words } = read_input(lines, list, external)?;
+    let ParsedInput { script, words } = read_input(lines, keys, Repeats::Kept, external)?;
     match open_words(lines.alloc(), keys, script, words, progress) {
         Ok(bench) => Ok(bench),
         Err(fault) => Err(LoadFault::Open(fault)),
@@ -244,8 +245,8 @@ fn rows_of_words(alloc: Global, script: &Script, words: WordList) -> Result<Vec<
 }
 
 /// Returns the text of the rows of an input, as `rows_text` has them for the bench that `load` makes of it. Makes no bench, so that
-/// less is kept of each word. The keys are those of the hash by which words are found. Does not free the words: a program ends after it
-/// has written their rows.
+/// less is kept of each word. The keys are those of the hash by which words are found. Does not free the words of rows that it returns: a
+/// program ends after it has written these.
 ///
 /// # Errors
 ///
@@ -264,8 +265,7 @@ pub fn load_rows<R: Source + Drop>(
     ensures again { (fault : LineFault) → lines.old.fault ≡ Some fault → (result ≡ Err (LoadFault.Input (serve_fault_of fault))) × Keeps (input_of R.left lines.old) (input_of R.left lines.new) }
     ensures steady { OnOk result ((R.tally lines.new.reader).failures ≡ (R.tally lines.old.reader).failures) }
 {
-    let list = WordList::distinct(lines.alloc(), keys);
-    let ParsedInput { script, words } = read_input(lines, list, external)?;
+    let ParsedInput { script, words } = read_input(lines, keys, Repeats::Dropped, external)?;
     let rows = rows_of_words(lines.alloc(), &script, words);
     script.discard();
     match rows {

@@ -9,7 +9,7 @@ use sbl_bench::{EditFault, MAX_WORDS, WordKeys, word_fault};
 use std::alloc::{AllocError, Global};
 use std::mem;
 
-/// The number of words for which room is made at first. A vocabulary that has more makes the set grow.
+/// The number of words for which a set has room at first: that of an ordinary vocabulary. More words make it grow.
 const USUAL_WORDS: usize = 32_768;
 
 /// The words so far that decide how a bench opens, and the first word that a bench refuses. Empty words and the words after that
@@ -22,8 +22,15 @@ pub(crate) struct WordList {
     refused: Option<Vec<char>>,
 }
 
-/// Words that are kept. Repeats are kept among them until there are `MAX_WORDS`, so that an ordinary vocabulary is hashed by the
-/// bench alone.
+/// What becomes of repeats. A bench drops them itself: if they are kept, an ordinary vocabulary is hashed by the bench alone. Without a
+/// bench the words need no second list if they are dropped at once.
+#[derive(Clone, Copy)]
+pub(crate) enum Repeats {
+    Kept,
+    Dropped,
+}
+
+/// Words that are kept: with repeats, as long as they are fewer than `MAX_WORDS`, or without.
 #[derive(Drop)]
 enum KeptWords {
     Plain(Vec<Vec<char>>),
@@ -31,30 +38,18 @@ enum KeptWords {
 }
 
 impl WordList {
-    /// Returns the list of no words for a bench. If words are found by a hash, it has these keys. Does not allocate.
-    pub(crate) fn new(alloc: Global, keys: WordKeys) -> WordList
+    /// Returns the list of no words. If words are found by a hash, it has these keys.
+    pub(crate) fn new(alloc: Global, keys: WordKeys, repeats: Repeats) -> WordList
         ensures { HoldsWords result [] }
     {
+        let words = match repeats {
+            Repeats::Kept => KeptWords::Plain(Vec::new(alloc)),
+            Repeats::Dropped => KeptWords::Distinct(set_with_room(alloc, keys)),
+        };
         WordList {
             alloc,
             keys,
-            words: KeptWords::Plain(Vec::new(alloc)),
-            refused: None,
-        }
-    }
-
-    /// Returns the list of no words, which keeps no repeats. Words are found by a hash with these keys. Makes room for the words of
-    /// an ordinary vocabulary, if there is memory.
-    pub(crate) fn distinct(alloc: Global, keys: WordKeys) -> WordList
-        ensures { HoldsWords result [] }
-    {
-        let mut words = IndexSet::with_hasher(alloc, keys);
-        // (if there is no memory now, a word that is appended says so)
-        let _ = words.reserve(USUAL_WORDS);
-        WordList {
-            alloc,
-            keys,
-            words: KeptWords::Distinct(words),
+            words,
             refused: None,
         }
     }
@@ -177,6 +172,18 @@ impl KeptWords {
             KeptWords::Plain(words) => distinct(alloc, keys, words),
             KeptWords::Distinct(words) => Ok(words),
         }
+    }
+}
+
+/// Returns a set of no words, with room for an ordinary vocabulary if there is memory.
+fn set_with_room(alloc: Global, keys: WordKeys) -> IndexSet<Vec<char>, WordKeys>
+    ensures { result.keys ≡ [] }
+{
+    let mut words = IndexSet::with_hasher(alloc, keys);
+    match words.reserve(USUAL_WORDS) {
+        Ok(()) => words,
+        // (a set that got a part of the room would want the rest of it for its first word)
+        Err(_) => IndexSet::with_hasher(alloc, keys),
     }
 }
 

@@ -11,7 +11,7 @@ use Rattle.sbl_input.proofs.loading.read_words.Goals as goal
 
 pub loop-words-init : goal.loop-words-init
 loop-words-init g c =
-    ([], tt, tt, took-none _, c.requires, refl, omega arith, tt, refl, (λ timely. timely), refl)
+    ([], tt, tt, took-none _, c.new-words.ensures, refl, omega arith, tt, refl, (λ timely. timely), refl)
 
 pub returns-in_err-word-clause-reads : goal.returns-in_err-word-clause-reads
 returns-in_err-word-clause-reads g c = λ _.
