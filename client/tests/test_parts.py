@@ -7,7 +7,7 @@ import time
 import unittest.mock
 from types import SimpleNamespace
 
-from voltizug import bench, layout, lints, loops, near, options, reports, rows, warn, words
+from voltizug import bench, faults, layout, lints, loops, near, options, reports, rows, warn, words
 from voltizug.bench import Edit, Stage
 from voltizug.completion import Completion
 from voltizug.conditions import Routine
@@ -193,6 +193,15 @@ class Others(Case):
         tokens = [rows.Token("literal" if part[0][0] == "'" else "word", part.start(), part.end(), part[0]) for part in parts]
         shown = lints.strange_strings(lints.Script(Places("my.sbl", text, text, found, tokens)), [rows.Outcome("abb", "stem", "ab")])
         self.assertEqual(list(shown), [(18, "no word and no stem has 'ba'")])
+
+    def test_codes_that_are_meant_and_codes_of_no_character(self):
+        code, name = ": this is no code of a character: hex needs 1 to 6 digits of 0-9", ": no stringdef before this defines the name that is inserted here"
+        for fault, literal, more in (
+            (code, "'{U+D800}'", ". No character has a code from D800 to DFFF or above 10FFFF"), (code, "'{U+}'", ""),
+            (name, "'{u+0175}'", ". Did you mean {U+0175}?"), (name, "'{e^}'", ". Did you mean a^?"),
+        ):
+            said = ["snowbench: 9 BadCode", "my.sbl:3:2" + fault, "    " + literal, "     ^"]
+            self.assertEqual(faults.shown(said, "my.sbl", b"stringdef a^ hex 'E2'\nstringdef a^ hex 'E3'\n", 200)[0], "my.sbl:3:2" + fault + more)
 
     def test_letters_that_are_not_seen_are_named(self):
         named = {" ": "a blank", "\t": "a tab", "\u00a0": "U+00A0", "\u200b": "U+200B", "\u030c": "U+030C", "\x1b": "U+001B", "\U00010330": "\U00010330 (U+10330)", "'": "'"}

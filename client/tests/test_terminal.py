@@ -56,7 +56,7 @@ class Sessions(Case):
         terminal.save(AUTHOR.replace("hop 5", "hop 4") + "// new\n")
         self.assertIn("replaced: long (undo brings it back)", terminal.enter(""))
         self.assertEqual(
-            terminal.enter("quit"), "A reload replaced what you typed (long), and no file has all of it: undo goes back to it, quit again drops it.",
+            terminal.enter("quit"), "A reload replaced what you typed (long), and no file has all of it: undo, once or more, goes back to it, quit again drops it.",
         )
         terminal.save(AUTHOR)
         terminal.enter("")
@@ -502,6 +502,21 @@ define stem as backwards ( do r do s )
         terminal.save("", "my.families")
         self.assertEqual(terminal.enter("families my.families"), "my.families has no words: a family is a line of words that belong together.")
         self.assertEqual(terminal.enter("families my.sbl"), "my.sbl looks like a script: a family is a line of words that belong together.")
+
+    def test_a_substring_without_its_slice(self):
+        script = "externals ( stem ) routines ( r )\ndefine r as ( %s among ( 'x' (delete) ) )\ndefine stem as ( do ( ['a'] delete ) do r )\n"
+        terminal = self.begin(script % "substring", "abx\nx\n")
+        self.assertIn("my.sbl:2:15: the strings of this substring take an earlier slice: [substring] is meant, perhaps", self.start)
+        terminal.save(script % "[substring]")
+        self.assertNotIn("earlier slice", terminal.enter("", "lint"))
+        terminal.save("externals ( stem )\ndefine stem as repeat do true\n")
+        self.assertIn("my.sbl:2:16", terminal.enter("", "lint").split("\n")[-1])
+
+    def test_a_point_that_ends_no_block(self):
+        terminal = self.begin()
+        shown = terminal.enter("among plural 1", "among ( 'es' (delete) ) .", ".")
+        self.assertEqual(shown.split("\n")[-1], "Nothing changed. The up arrow brings the block back. A point that ends a block is on a line of its own.")
+        terminal.type("uses plural 1 'e\t", rb"uses plural 1 'es' ?$")
 
     def test_lints_on_signs(self):
         """Of groupings, of other signs of insertions than {}, and of capitals; and where an external would be forwards."""

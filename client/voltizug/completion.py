@@ -43,8 +43,8 @@ class Completion:
             return [name + " " * (has_among and places.count(name) > 0) for name in names]
         if has_among and len(words) == 2:
             return map(str, range(1, places.count(words[0]) + 1))
-        is_string = command == "uses" and len(words) == 3
-        return [string for *among, string in places.entries if is_string and among == words[:2] and " " not in string]
+        is_string, form = command == "uses" and len(words) == 3, "'%s'" if words[-1].startswith("'") else "%s"
+        return [form % string for *among, string in places.entries if is_string and among == words[:2] and " " not in string]
 
     def words(self, text: str, is_stem: bool) -> Iterable[str]:
         lines = self.bench.known("find " + text) if text and " " not in text else None

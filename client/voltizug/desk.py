@@ -200,6 +200,8 @@ class Desk:
             said = "%s. %s" % (name, said)
         found, most = faults.without_following(self.bench.read("faults"))[1:] if code == 48 else [], max(1, self.screen.size().lines // 3)
         others = ["also %s:%s: %s" % row[5:8] if row.line else "also: " + row.sentence for row in found[:most]]
+        if len(lines) > 2 and any(re.search(r":\d+:\d+: \. can only be in", line) for line in reply.said):
+            said += " A point that ends a block is on a line of its own."
         where = self.correction(self.bench.script) if (lines[0], code) == ("reload", BROKEN_OFF[0]) else ""
         self.screen.say(said, where, *others, "{:,} more faults".format(len(found) - most) if len(found) > most else "")
         self.nonsense = self.nonsense + 1 if code == 52 and self.editor.has_key() else 0

@@ -53,6 +53,8 @@ def advice(line: str, source: str, carets: str, text: bytes) -> str:
             return ". Did you mean {U+%s}?" % code[1]
         names = list(dict.fromkeys(re.findall(r"\bstringdef\s+(\S+)", text.decode("utf-8", "replace"))))
         return "." * bool(near(name, names)) + meant(name, names)
+    if ": this is no code of a character: " in line and "^" in carets and re.match(r"\{U\+[0-9A-F]{1,6}\}", source[carets.index("^") :]):
+        return ". No character has a code from D800 to DFFF or above 10FFFF"
     unknown = re.search(r": (\w+) is not declared\. Declare it\b.*, or use another name\.\Z", line)
     if unknown and re.search(r"(\[\s*|<-\s*|<\+\s*)%s\b" % unknown[1], source):
         return " If letters are meant: '%s'." % short(unknown[1])

@@ -236,13 +236,17 @@ def late_takings(script: Script) -> Iterable[Lint]:
 
 
 def unset_slices(script: Script) -> Iterable[Lint]:
-    """The first command of a routine that takes the slice, if there is no [ or no ] in the routine, in what it calls, and in what calls it."""
+    """The first command of a routine that takes the slice, if there is no [ or no ] in the routine, in what it calls, and in what calls it; and a
+    substring whose strings take one, if the routine has no [."""
     there = {sign: reached(script.having(sign), script.calls) | script.doing(sign) for sign in "[]"}
     what = "{}, what it calls and what calls it have no {}: this {} takes an earlier slice, or an empty one"
     for name, body in script.bodies.items():
         lacking = [sign for sign in "[]" if name not in there[sign]]
         for token in [token for token in body if token.text in TAKING and lacking][:1]:
             yield token.start, what.format(name, in_words(lacking, "and no"), token.text)
+        for token, then, i in zip(body, body[1:], range(2, len(body) if not lacking and "[" not in script.texts[name] else 0)):
+            if (token.text, then.text) == ("substring", "among") and any(other.text in TAKING[:2] for other in body[i : end_of(body, i)]):
+                yield token.start, "the strings of this substring take an earlier slice: [substring] is meant, perhaps"
 
 
 def idle_amongs(script: Script) -> Iterable[Lint]:

@@ -140,7 +140,9 @@ class Terminal(Desk):
         return layout.changes(self.own, self.added(self.own)) + ["the last edit changed " + figures]
 
     def reply_lint(self, *_: object) -> List[str]:
-        return [*warn.warnings_on(self.bench.script, self.bench.words), *lints.lints(self.bench, has_all=True)] or ["nothing was found"]
+        endless = [row.word for row in self.bench.outcomes() if row.kind == "refused" and row.stem in loops.NAMES][:1]
+        found = [*lints.lints(self.bench, has_all=True), *(loops.ending(word, self.bench) for word in endless)]
+        return [*warn.warnings_on(self.bench.script, self.bench.words), *filter(None, found)] or ["nothing was found"]
 
     def reply_script(self, *_: object) -> List[str]:
         return readable(self.bench.program.now.text).rstrip("\n").split("\n")
@@ -392,7 +394,7 @@ class Terminal(Desk):
         if bench.is_unsaved(bench.program.now.text):
             doubts.insert(0, "The edits that you typed are in no file: save FILE keeps them, quit again drops them.")
         elif aside:
-            doubts.insert(0, "A reload replaced what you typed (%s), and no file has all of it: undo goes back to it, quit again drops it." % aside)
+            doubts.insert(0, "A reload replaced what you typed (%s), and no file has all of it: undo, once or more, goes back to it, quit again drops it." % aside)
         return self.is_sure("quit", *doubts)
 
     def is_sure(self, line: str, *doubts: str) -> bool:

@@ -53,7 +53,8 @@ def on_numbers(name: str, path: str, found: Sequence[int], what: str, then: str)
 
 def on_typed(name: str, text: str, words: Iterable[str]) -> List[str]:
     """Returns the warning on what was typed under a name in a form of Unicode that no word has."""
-    return on_lines(named(name), "FILE", text, DECOMPOSED) if DECOMPOSED[0](text) and not any(map(DECOMPOSED[0], words)) else []
+    kind = (DECOMPOSED[0], DECOMPOSED[1], DECOMPOSED[2].partition(". To compose")[0])
+    return on_lines(named(name), "", text, kind) if DECOMPOSED[0](text) and not any(map(DECOMPOSED[0], words)) else []
 
 
 def on_several(name: str, path: str, text: str) -> List[str]:
