@@ -125,7 +125,8 @@ def checked_once(program):
 
 
 def fast_start():
-    """The processor time of ./snowbench besides its program, as the least of some runs. (The time that passes says nothing on a busy machine.)"""
+    """The processor time of ./snowbench besides its program, as the least of some runs: less than a fifth of that of the first one, which sums up
+    the sources. (The time that passes says nothing on a busy machine, and a number of milliseconds nothing on a slow one.)"""
     room, times = Copy("/bin/true"), []
     environment = {name: value for name, value in os.environ.items() if name != "SNOWBENCH_PROGRAM"}
     time.sleep(2.1)
@@ -134,7 +135,8 @@ def fast_start():
         subprocess.run([room.path("snowbench"), "run", "my.sbl"], env=environment, stdin=subprocess.DEVNULL, capture_output=True, check=False)
         after = resource.getrusage(resource.RUSAGE_CHILDREN)
         times.append(after.ru_utime + after.ru_stime - before.ru_utime - before.ru_stime)
-    return [] if min(times) < 0.04 else ["%.0f ms" % (min(times) * 1000)]
+    first, least = times[0], min(times[1:])
+    return [] if least < first / 5 else ["%.0f ms, and %.0f ms at first" % (least * 1000, first * 1000)]
 
 
 def proving():
