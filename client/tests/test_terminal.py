@@ -502,6 +502,11 @@ define stem as backwards ( do r do s )
         terminal.save("", "my.families")
         self.assertEqual(terminal.enter("families my.families"), "my.families has no words: a family is a line of words that belong together.")
         self.assertEqual(terminal.enter("families my.sbl"), "my.sbl looks like a script: a family is a line of words that belong together.")
+        shown = terminal.enter("add be\u0302l")
+        self.assertEqual(("a letter and its accent are two characters (NFD)" in shown, "uconv" in shown), (True, False))
+        os.remove(os.path.join(self.folder, "my.words"))
+        self.assertIn("my.words cannot be read: there is no such file.", terminal.enter("words", "words"))
+        self.assertIn("The words that were read stay.", terminal.enter("words", "words"))
 
     def test_a_substring_without_its_slice(self):
         script = "externals ( stem ) routines ( r )\ndefine r as ( %s among ( 'x' (delete) ) )\ndefine stem as ( do ( ['a'] delete ) do r )\n"

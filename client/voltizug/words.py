@@ -241,7 +241,7 @@ def bad_file(line: str, bench: Stage) -> str:
     path = file_of(line, bench)
     # (after `reload` another file is no question: SCRIPT stays the file)
     if command == "words":
-        return "%s cannot be read: %s The words that were read stay." % (short(path), unreadable(path))
+        return "%s cannot be read: %s. The words that were read stay." % (short(path), unreadable(path).partition(".")[0])
     why = unreadable(path) if command != "reload" else unreadable(path).partition(".")[0] + ". The script that was read stays: save FILE keeps it."
     return "%s cannot be read: %s" % (short(path), why)
 
