@@ -293,8 +293,8 @@ class Bench(Stage):
         if word == "reload":
             self.note_file()
             names, was_saved = typed_names(history), hash(before.text) in self.replaced
-            lost = self.lost(names, before.text)
             is_aside = before.text != text and self.is_unsaved(before.text) and not self.has_saved(before.text, text)
+            lost = self.lost(names, before.text) if is_aside else ()
             if is_aside and (lost or not (names and was_saved)):
                 aside = lost or names
                 self.aside.append((before.text, aside))

@@ -107,8 +107,8 @@ class Desk:
             say(edits + ": rescue brings them back, rescue drop forgets them." + older)
         if not figures["words"] and not bench.words:
             say("To see stems: add WORD, or start with a file of words: %s work SCRIPT WORDS" % CALLED)
-        pipes = [short(path) for path in self.paths if not os.path.isfile(path)]
-        say("%s is no regular file, so work reads it once." % pipes[0] if len(pipes) == 1 else "%s and %s are no regular files, so work reads them once." % tuple(pipes) if pipes else "")
+        for path in self.paths:
+            say("" if os.path.isfile(path) else "%s is no regular file, so work reads it once." % short(path))
         say(sizes(figures))
 
     def misplaced(self) -> str:
