@@ -9,13 +9,13 @@ from types import SimpleNamespace
 
 from voltizug import bench, faults, layout, lints, loops, near, options, reports, rows, warn, words
 from voltizug.bench import Edit, Stage
-from voltizug.completion import Completion
 from voltizug.conditions import Routine
 from voltizug.editor.judge import place_of
 from voltizug.editor.names import Names
 from voltizug.kept import Kept, state_of
 from voltizug.places import Places, line_and_column
 from voltizug.program import Reply
+from voltizug.terminal.completion import Completion
 
 from .kit import CLIENT, Case, write
 
@@ -100,7 +100,7 @@ class Loops(Case):
 
 class Others(Case):
     def test_the_page_and_the_server_have_nothing_of_the_terminal(self):
-        code = "import sys, voltizug.page.serve, voltizug.page.report, voltizug.editor.lsp; print(*{'readline', 'termios', 'voltizug.desk'} & set(sys.modules))"
+        code = "import sys, voltizug.page.serve, voltizug.page.report, voltizug.editor.lsp; print(*{'readline', 'termios', 'voltizug.terminal.desk'} & set(sys.modules))"
         self.assertEqual(subprocess.run([sys.executable, "-c", code], cwd=CLIENT, capture_output=True, text=True, check=True).stdout, "\n")
 
     def test_the_place_of_a_fault(self):

@@ -6,7 +6,7 @@ import sys
 import time
 import unittest.mock
 
-from voltizug import keys
+from voltizug.terminal import keys
 
 from .kit import CLIENT, FAKE, LOOP, Case, alive, example, write
 

@@ -8,16 +8,16 @@ from collections import Counter
 from operator import ne
 from typing import Any, List, Sequence, Tuple
 
-from . import commands, kept, layout, lints, loops, options, reports, rows, warn, words
-from .bench import Bench, typed_edits
-from .commands import BEFORE_FILE, BLOCKS, COMMANDS, LANGUAGE, NO_FILE, OPEN_BLOCKS, REPORTING, ROWS, WITH_TEXT
-from .conditions import with_tests
+from .. import commands, kept, layout, lints, loops, options, reports, rows, warn, words
+from ..bench import Bench, typed_edits
+from ..commands import BEFORE_FILE, BLOCKS, COMMANDS, LANGUAGE, NO_FILE, OPEN_BLOCKS, REPORTING, ROWS, WITH_TEXT
+from ..conditions import with_tests
+from ..layout import counted, in_words, short
+from ..near import composed, meant
+from ..places import BOM, readable
+from ..program import BROKEN, DONE, ENDED, encoded
 from .desk import Desk
 from .keys import Broken, Dropped, Hangup
-from .layout import counted, in_words, short
-from .near import composed, meant
-from .places import BOM, readable
-from .program import BROKEN, DONE, ENDED, encoded
 
 DEFINITION = re.compile(r"\s*define\s+([A-Za-z][A-Za-z0-9_]*)\s+(as(?=\s|$))?")
 TO_FILE = re.compile(r"(.*\S)\s+>\s*(\S+|[^|>\s][^|>]*\S)\s*\Z")

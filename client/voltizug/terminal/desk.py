@@ -4,14 +4,14 @@ import re
 from collections import Counter
 from typing import Any, Dict, List, Optional, Sequence
 
-from . import faults, kept, layout, lints, loops, rows, warn, words
-from .bench import Bench, Edit
-from .commands import BLOCKS, COMMENT, DECLARATION, OPEN_BLOCKS
+from .. import faults, kept, layout, lints, loops, rows, warn, words
+from ..bench import Bench, Edit
+from ..commands import BLOCKS, COMMENT, DECLARATION, OPEN_BLOCKS
+from ..layout import counted, in_words, short, sizes
+from ..options import CALLED, Options
+from ..program import BROKEN, BROKEN_OFF, DONE, ENDED, ROWS, Reply, Skipped
 from .completion import Completion
 from .keys import Editor, Hangup
-from .layout import counted, in_words, short, sizes
-from .options import CALLED, Options
-from .program import BROKEN, BROKEN_OFF, DONE, ENDED, ROWS, Reply, Skipped
 from .screen import Screen
 
 # After so many lines, one after another, that are no command and came faster than one types, the rest is dropped.

@@ -6,7 +6,7 @@ import subprocess
 import sys
 from typing import List, Sequence
 
-from . import layout
+from .. import layout
 from .keys import Broken, Editor, Hangup
 
 # A terminal that does not tell its size, and the least that is taken as one; how many lines are written before it is looked whether Ctrl-C came.

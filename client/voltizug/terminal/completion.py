@@ -3,9 +3,9 @@ import glob
 import os
 from typing import Iterable, List
 
-from . import rows
-from .bench import Bench
-from .commands import COMMANDS, NAMED, UNLISTED
+from .. import rows
+from ..bench import Bench
+from ..commands import COMMANDS, NAMED, UNLISTED
 
 # Of more completions there is only how they all begin.
 MOST = 200
