@@ -10,8 +10,8 @@ from types import SimpleNamespace
 from voltizug import bench, faults, layout, lints, loops, near, options, reports, rows, warn, words
 from voltizug.bench import Edit, Stage
 from voltizug.conditions import Routine
-from voltizug.editor.judge import place_of
 from voltizug.editor.names import Names
+from voltizug.faults import place_of
 from voltizug.kept import Kept, state_of
 from voltizug.places import Places, line_and_column
 from voltizug.program import Reply
@@ -99,9 +99,13 @@ class Loops(Case):
 
 
 class Others(Case):
-    def test_the_page_and_the_server_have_nothing_of_the_terminal(self):
-        code = "import sys, voltizug.page.serve, voltizug.page.report, voltizug.editor.lsp; print(*{'readline', 'termios', 'voltizug.terminal.desk'} & set(sys.modules))"
-        self.assertEqual(subprocess.run([sys.executable, "-c", code], cwd=CLIENT, capture_output=True, text=True, check=True).stdout, "\n")
+    def test_no_face_imports_another_one(self):
+        faces = {"terminal": "terminal.terminal", "page": "page.serve voltizug.page.report", "editor": "editor.lsp"}
+        for face, modules in faces.items():
+            others = [*("voltizug." + other for other in faces if other != face), *["readline", "termios"] * (face != "terminal")]
+            code = "import sys, voltizug.%s; print(*{*sys.argv[1:]} & set(sys.modules))" % modules.replace(" ", ", ")
+            said = subprocess.run([sys.executable, "-c", code, *others], cwd=CLIENT, capture_output=True, text=True, check=True).stdout
+            self.assertEqual(said, "\n", face)
 
     def test_the_place_of_a_fault(self):
         said = ["my.sbl:4:16: tale is not declared", "    define stem as tale", "                   ^^^^"]

@@ -1,6 +1,6 @@
 """What the program says about a fault, fitted to a window, with columns as an editor counts them, names of files, and advice."""
 import re
-from typing import Any, List, Optional, Sequence, Tuple
+from typing import Any, List, NamedTuple, Optional, Sequence, Tuple
 
 from .language import ITEMS
 from .layout import named, short
@@ -12,10 +12,29 @@ from .words import converting, in_shell, unreadable
 INDENT = "    "
 CANNOT_BE_READ = re.compile(r"snowbench: (.+): [^:]+ \(os error \d+\)")
 CODE = re.compile(r"snowbench: (\d+) (\w+)")
+# What follows the name of a file: line, column and sentence.
+PLACE = re.compile(r":(\d+):(\d+): (.*)", re.S)
 # What is said of a script without an external; what of `non` and a grouping in one word, if no other name is near it.
 NO_EXTERNAL = ": the script declares no external: "
 NEGATED = re.compile(r": non_?([A-Za-z][A-Za-z0-9_]*) is not declared\. (?:Did you mean non\?|Declare )")
 OPEN = re.compile(r":(\d+):(\d+): .*; the \( of (\d+):(\d+) is still open\Z")
+
+
+class Place(NamedTuple):
+    """Where a fault is, how many characters it has, and its sentence; zeros if it is of the whole text."""
+
+    line: int
+    column: int
+    length: int
+    sentence: str
+
+
+def place_of(said: Sequence[str], *names: str) -> Place:
+    """Returns the place of the first fault in what is said of a file with one of these names."""
+    found = [PLACE.match(line[len(name) :]) for line in said for name in names if line.startswith(name + ":")]
+    place = next(filter(None, found), None)
+    carets = next((line for line in said if line.strip() and not line.strip("^ ")), "")
+    return Place(int(place[1]), int(place[2]), carets.count("^"), place[3]) if place else Place(0, 0, 0, " ".join(said))
 
 
 def code_of(said: Sequence[str]) -> int:

@@ -13,11 +13,11 @@ import tempfile
 from typing import Any, Dict, List, NamedTuple, Sequence, Tuple
 
 from .. import reports, rows
+from ..comparison import comparison
 from ..kept import read_file
 from ..layout import counted, named
 from ..options import usual_program
 from ..program import Program
-from .comparison import comparison
 from .ink import shown_text
 
 HERE = os.path.dirname(os.path.realpath(__file__))
