@@ -10,9 +10,9 @@ from types import SimpleNamespace
 from voltizug import bench, faults, layout, lints, loops, near, options, reports, rows, warn, words
 from voltizug.bench import Edit, Stage
 from voltizug.conditions import Routine
-from voltizug.editor.names import Names
 from voltizug.faults import place_of
 from voltizug.kept import Kept, state_of
+from voltizug.names import Names
 from voltizug.places import Places, line_and_column
 from voltizug.program import Reply
 from voltizug.terminal.completion import Completion

@@ -7,8 +7,8 @@ from typing import Any, Dict, Iterable, List, Sequence, Set, Tuple
 
 from .bench import Bench
 from .conditions import BODY
-from .editor.names import Names
 from .layout import counted, in_words, named, short
+from .names import Names
 from .near import composed
 from .places import LARGEST, Places
 from .rows import Outcome, Token
