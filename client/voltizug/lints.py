@@ -360,10 +360,21 @@ def inserted(text: str, signs: str, macros: Dict[str, str]) -> str:
     return re.sub("%s(.*?)%s" % (re.escape(signs[0]), re.escape(signs[1])), value, text, flags=re.S) if signs else text
 
 
+def is_mostly(string: str, begins: bool, outcomes: Sequence[Outcome]) -> bool:
+    """Whether more words begin with a string than have it elsewhere, or end with it if not `begins`."""
+    found = Counter(row.word.startswith(string) if begins else row.word.endswith(string) for row in outcomes if string in row.word)
+    return found[True] > found[False]
+
+
 def wrong_ways(script: Script, bench: Bench, outcomes: Sequence[Outcome]) -> Iterable[Lint]:
-    """Amongs of which most strings are taken in no run, and are only at that end of words from which the among does not go."""
+    """Amongs that most runs search, of which most strings are taken in no run, and are in words mostly at that end from which the among does not go."""
     places, items, strings = script.places, script.names.items, {}  # type: Places, Any, Dict[Tuple[str, str], List[str]]
-    untaken = {(row.name, row.k, row.string) for row in bench.read("counts") if row.kind == "entry" and row.count == "0"}
+    counts = bench.read("counts")
+    untaken = {(row.name, row.k, row.string) for row in counts if row.kind == "entry" and row.count == "0"}
+    searched = {(row.name, row.k) for row in counts if row.kind == "among" and 2 * int(row.count) > len(outcomes)}
+    if 2 * sum(not row.stem for row in outcomes) > len(outcomes):
+        # (another command takes the whole words away)
+        return
     for name, k, string in places.entries:
         strings.setdefault((name, k), []).append(string)
     sizes = {len(string) for _, _, string in places.entries} - {0}
@@ -373,10 +384,10 @@ def wrong_ways(script: Script, bench: Bench, outcomes: Sequence[Outcome]) -> Ite
         True: "{0} runs backwards, and {1} of these strings, as '{2}', only begin words: perhaps it should be defined outside of backwardmode",
     }
     external = "{0} runs forwards, and {1} of these strings, as '{2}', only end words: perhaps its body should be backwards ( .. )"
-    for (name, k), there in ((key, there) for key, there in strings.items() if key[0] in items):
+    for (name, k), there in ((key, there) for key, there in strings.items() if key[0] in items and key in searched):
         start, is_back = int(places.amongs[name, k].start), items[name].is_backward
         near, far = (ends, begins) if is_back else (begins, ends)
-        odd = [string for string in there if (name, k, string) in untaken and string in far and string not in near]
+        odd = [string for string in there if (name, k, string) in untaken and string in far and string not in near and is_mostly(string, is_back, outcomes)]
         if 2 * len(odd) >= max(4, len(there)) and not any(token.text == "backwards" and token.start < start for token in places.part(name)):
             is_external = not is_back and script.names.kinds.get(name) == "external"
             yield start, (external if is_external else what[is_back]).format(name, len(odd), short(odd[0]))
