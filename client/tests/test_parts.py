@@ -186,7 +186,7 @@ class Others(Case):
         shown = lints.strange_strings(lints.Script(places), [rows.Outcome("a", "stem", "a")])
         what = "'%s' has %s, which no word has and no command puts in"
         self.assertEqual(list(shown), [
-            (10, what % ("аcč", "c, č (U+010D) and а (U+0430)")), (20, what % ("bcdefghi", "b, c, d, e, f and 3 more")),
+            (10, what % ("аcč", "c (U+0063, a Latin letter), č (U+010D) and а (U+0430)")), (20, what % ("bcdefghi", "b, c, d, e, f and 3 more")),
         ])
 
     def test_a_literal_that_no_text_has(self):
@@ -209,7 +209,7 @@ class Others(Case):
 
     def test_letters_that_are_not_seen_are_named(self):
         named = {" ": "a blank", "\t": "a tab", "\u00a0": "U+00A0", "\u200b": "U+200B", "\u030c": "U+030C", "\x1b": "U+001B", "\U00010330": "\U00010330 (U+10330)", "'": "'"}
-        self.assertEqual({c: lints.letter(c) for c in named}, named)
+        self.assertEqual({c: lints.letter(c, c) for c in named}, named)
 
     def test_the_encoding_of_a_file(self):
         """By its bytes: words of Icelandic, Czech, Russian and Greek, and marks of UTF-16 and UTF-32."""

@@ -72,6 +72,7 @@ NOTES: Dict[str, str] = {
     "fault gone": "The fault is gone: {script} has the current script again.",
     "undone in file": "{script} still has what undo took back: Enter reads it again.",
     "the same script": "The script has this already, so undo does not count it.",
+    "the same tokens": "The script has the same tokens, so undo does not count this. Its blanks and comments are as you typed them now.",
     "limit": "Each run may use {limit} now.",
     "the same limit": "Each run may use {limit} already, so undo does not count it.",
 }
@@ -103,6 +104,9 @@ def refused(code: int, line: str, bench: Stage) -> str:
     command, _, argument = line.partition(" ")
     if code in (41, 42, 45, 53) and not argument:
         return "%s needs a %s: %s." % (command, COMMANDS[command].takes.partition(" ")[0].lower(), COMMANDS[command].usage)
+    if code in OF_WORDS and code != 75 and command == "words":
+        path = bench.words or ""
+        return OF_WORDS[code].format(name=short(path), quoted=in_shell(path)) + " The words that were read stay."
     if code in SPECIAL:
         return SPECIAL[code](line, bench)
     name, k, string = [*argument.split(" ", 2), "", ""][:3]

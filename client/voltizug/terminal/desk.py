@@ -187,8 +187,8 @@ class Desk:
         code, name = reply.refusal() or (0, "")
         self.show_fault(reply.said, lines)
         said = words.sentence(reply, lines, self.bench)
-        if lines[0] in ("reload", "words") and code != BROKEN_OFF[0] and self.warn(self.bench.words if lines[0] == "words" else None) and code == 75:
-            # (the warning says how the list becomes UTF-8)
+        if lines[0] in ("reload", "words") and code != BROKEN_OFF[0] and self.warn(self.bench.words if lines[0] == "words" else None) and code in (43, 75):
+            # (the warning says more)
             said = "Nothing changed."
         if lines[0] == "reload" and not os.path.lexists(self.bench.script):
             # (this says so)
