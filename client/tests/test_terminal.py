@@ -535,7 +535,7 @@ define stem as backwards ( do r do s )
         self.assertIn("'{e}' has { and } as letters: no stringescapes {} is above it", terminal.enter("", "lint"))
         capitals = self.begin(script % "'a'", words.upper())
         shown = capitals.enter("lint").replace("\n    ", " ")
-        self.assertIn("have capitals, as 'BAAING', and no string of an among has one. For small letters: sed 's/.*/\\L&/' WORDS > NEW", shown)
+        self.assertIn("have capitals, as 'BAAING', and no string of an among has one. For small letters: LC_ALL=C.UTF-8 sed 's/.*/\\L&/' my.words > NEW", shown)
         self.assertNotIn("forwards", shown)
 
     def test_the_one_warning_that_ends_the_start(self):
