@@ -104,7 +104,7 @@ def refused(code: int, line: str, bench: Stage) -> str:
     command, _, argument = line.partition(" ")
     if code in (41, 42, 45, 53) and not argument:
         return "%s needs a %s: %s." % (command, COMMANDS[command].takes.partition(" ")[0].lower(), COMMANDS[command].usage)
-    if code in OF_WORDS and code != 75 and command == "words":
+    if code in OF_WORDS and code != 75 and command == "words" and isinstance(bench, Bench):
         path = bench.words or ""
         return OF_WORDS[code].format(name=short(path), quoted=in_shell(path)) + " The words that were read stay."
     if code in SPECIAL:

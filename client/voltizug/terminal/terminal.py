@@ -267,9 +267,9 @@ class Terminal(Desk):
         if path and not self.may_write(line, path):
             return
         before, stems = kept.read_file(path), kept.read_lines(path)
-        # (a new file is compared with SCRIPT, but not if another file was read)
+        # (a new file is compared with what SCRIPT had when edits were typed over it)
         is_other = os.path.lexists(path) or hash(self.bench.program.now.text) in self.bench.read_texts
-        base = path if is_other else self.bench.script
+        base = path if is_other else self.bench.kept.keep("base", self.bench.base or b"")
         comments = self.comments(base) if command == "save" else 0
         reply = self.bench.write(command, path)
         is_same = kept.read_file(path) == before
@@ -283,7 +283,7 @@ class Terminal(Desk):
         elif reply.is_done:
             lost = comments - self.comments(path)
             # (of the parts that were typed, or of a change of SCRIPT that undo took back)
-            where = "no longer in %s." % name if base == path else "in %s, but not in %s." % (short(base), name)
+            where = "no longer in %s." % name if base == path else "in %s, but not in %s." % (short(self.bench.script), name)
             self.screen.say("saved in %s" % name, "%s %s" % (counted(lost, "comment is", "comments are"), where) if lost > 0 else "")
 
     def may_write(self, line: str, path: str) -> bool:
