@@ -23,4 +23,4 @@ if cache():
 # (by a first word that is no file: the verbs of ./snowbench that are no terminal)
 FACES = {"--lsp": "editor.lsp", "--page": "page.serve", "--report": "page.report", "--converting": "warn"}
 face = FACES.get(sys.argv[1]) if len(sys.argv) > 1 else None
-sys.exit(importlib.import_module("voltizug." + (face or "terminal")).main(sys.argv[2 if face else 1 :]))
+sys.exit(importlib.import_module("voltizug." + (face or "terminal.terminal")).main(sys.argv[2 if face else 1 :]))

@@ -9,13 +9,13 @@ from types import SimpleNamespace
 
 from voltizug import bench, faults, layout, lints, loops, near, options, reports, rows, warn, words
 from voltizug.bench import Edit, Stage
-from voltizug.completion import Completion
 from voltizug.conditions import Routine
-from voltizug.editor.judge import place_of
-from voltizug.editor.names import Names
+from voltizug.faults import place_of
 from voltizug.kept import Kept, state_of
+from voltizug.names import Names
 from voltizug.places import Places, line_and_column
 from voltizug.program import Reply
+from voltizug.terminal.completion import Completion
 
 from .kit import CLIENT, Case, write
 
@@ -99,9 +99,13 @@ class Loops(Case):
 
 
 class Others(Case):
-    def test_the_page_and_the_server_have_nothing_of_the_terminal(self):
-        code = "import sys, voltizug.page.serve, voltizug.page.report, voltizug.editor.lsp; print(*{'readline', 'termios', 'voltizug.desk'} & set(sys.modules))"
-        self.assertEqual(subprocess.run([sys.executable, "-c", code], cwd=CLIENT, capture_output=True, text=True, check=True).stdout, "\n")
+    def test_no_face_imports_another_one(self):
+        faces = {"terminal": "terminal.terminal", "page": "page.serve voltizug.page.report", "editor": "editor.lsp"}
+        for face, modules in faces.items():
+            others = [*("voltizug." + other for other in faces if other != face), *["readline", "termios"] * (face != "terminal")]
+            code = "import sys, voltizug.%s; print(*{*sys.argv[1:]} & set(sys.modules))" % modules.replace(" ", ", ")
+            said = subprocess.run([sys.executable, "-c", code, *others], cwd=CLIENT, capture_output=True, text=True, check=True).stdout
+            self.assertEqual(said, "\n", face)
 
     def test_the_place_of_a_fault(self):
         said = ["my.sbl:4:16: tale is not declared", "    define stem as tale", "                   ^^^^"]
@@ -182,7 +186,7 @@ class Others(Case):
         shown = lints.strange_strings(lints.Script(places), [rows.Outcome("a", "stem", "a")])
         what = "'%s' has %s, which no word has and no command puts in"
         self.assertEqual(list(shown), [
-            (10, what % ("аcč", "c, č (U+010D) and а (U+0430)")), (20, what % ("bcdefghi", "b, c, d, e, f and 3 more")),
+            (10, what % ("аcč", "c (U+0063, a Latin letter), č (U+010D) and а (U+0430)")), (20, what % ("bcdefghi", "b, c, d, e, f and 3 more")),
         ])
 
     def test_a_literal_that_no_text_has(self):
@@ -205,7 +209,7 @@ class Others(Case):
 
     def test_letters_that_are_not_seen_are_named(self):
         named = {" ": "a blank", "\t": "a tab", "\u00a0": "U+00A0", "\u200b": "U+200B", "\u030c": "U+030C", "\x1b": "U+001B", "\U00010330": "\U00010330 (U+10330)", "'": "'"}
-        self.assertEqual({c: lints.letter(c) for c in named}, named)
+        self.assertEqual({c: lints.letter(c, c) for c in named}, named)
 
     def test_the_encoding_of_a_file(self):
         """By its bytes: words of Icelandic, Czech, Russian and Greek, and marks of UTF-16 and UTF-32."""

@@ -1,12 +1,13 @@
 """`work` at a pseudo-terminal: sessions, and what once hung or lost something."""
 import os
+import shutil
 import signal
 import stat
 import sys
 import time
 import unittest.mock
 
-from voltizug import keys
+from voltizug.terminal import keys
 
 from .kit import CLIENT, FAKE, LOOP, Case, alive, example, write
 
@@ -347,7 +348,7 @@ define stem as backwards ( do r do s )
         terminal = self.begin()
         self.assertEqual(terminal.enter("why univrse").split("\n")[-1], "  univrse is not in the vocabulary. Did you mean universe?")
         self.assertNotIn("vocabulary", terminal.enter("why universe"))
-        self.assertNotIn("vocabulary", terminal.enter("why elephant"))
+        self.assertEqual(terminal.enter("why elephant").split("\n")[-1], "  elephant is not in the vocabulary.")
 
     def test_a_word_that_is_not_there_can_be_added(self):
         terminal = self.begin()
@@ -526,7 +527,7 @@ define stem as backwards ( do r do s )
     def test_lints_on_signs(self):
         """Of groupings, of other signs of insertions than {}, and of capitals; and where an external would be forwards."""
         words = "".join("b%s%sing\n" % (a, b) for a in "abcdefgh" for b in "aeiou") + "".join("c%sxx\n" % a for a in "abcdefghijkl")
-        script = "externals ( stem ) groupings ( v )\ndefine v 'a-eiou'\ndefine stem as ( v %s [substring] among ( 'ing' 'ng' 'g' 'ding' (delete) ) )\n"
+        script = "externals ( stem ) groupings ( v )\ndefine v 'a-eiou'\ndefine stem as ( do v do %s [substring] among ( 'ing' 'ng' 'g' 'ding' (delete) ) )\n"
         terminal = self.begin(script % "'{e}'", words)
         self.assertIn("my.sbl:2:10: the grouping has -, which no word has and no command puts in", terminal.enter("lint"))
         self.assertIn("perhaps its body should be backwards ( .. )", terminal.enter("lint"))
@@ -534,7 +535,7 @@ define stem as backwards ( do r do s )
         self.assertIn("'{e}' has { and } as letters: no stringescapes {} is above it", terminal.enter("", "lint"))
         capitals = self.begin(script % "'a'", words.upper())
         shown = capitals.enter("lint").replace("\n    ", " ")
-        self.assertIn("have capitals, as 'BAAING', and no string of an among has one. For small letters: sed 's/.*/\\L&/' WORDS > NEW", shown)
+        self.assertIn("have capitals, as 'BAAING', and no string of an among has one. For small letters: LC_ALL=C.UTF-8 sed 's/.*/\\L&/' my.words > NEW", shown)
         self.assertNotIn("forwards", shown)
 
     def test_the_one_warning_that_ends_the_start(self):
@@ -962,6 +963,39 @@ class Traps(Case):
         self.assertIn("glass: glass, glasses", shell.type("ss\r", rb"words\)"))
         shell.type("quit\r", rb"\$ $")
         self.assertIn("intr = ^C", shell.type("stty -a\r", rb"intr = [^;]*;"))
+
+    @unittest.skipIf(shutil.which("less") is None, "less is not installed")
+    def test_stop_in_the_pager(self):
+        """The pager stops, too, takes no key of the shell's, and goes on with its page."""
+        folder = self.room(my_sbl=AUTHOR, my_words="".join("word%03d\n" % i for i in range(90)))
+        shell = self.terminal(folder, "bash", term="xterm", lines=10, PAGER="less", PS1="$ ")
+        shell.type("%s -s -B %s my.sbl my.words\r" % (sys.executable, CLIENT), rb"0 refused(.|\n)*> ")
+        shell.type("stems\r", rb"goes back")
+        shell.type("\x1a", rb"Stopped(.|\n)*\$ ")
+        self.assertIn("\rhello\n", shell.type("echo hello\r", rb"\rhello\n(.|\n)*\$ $"))
+        self.assertIn("word008", shell.type("fg\r", rb"word008(.|\n)*goes back"))
+        self.assertIn("word017", shell.type(" ", rb"word017(.|\n)*goes back"))
+        shell.type("q", rb"> ")
+        self.assertIn("90 words", shell.type("stats\r", rb"runs so far\n> "))
+        shell.type("quit\r", rb"\$ $")
+
+    def test_families_whose_file_is_gone_or_empty(self):
+        terminal = self.begin()
+        write(os.path.join(self.folder, "f"), "universe universal university\nnew news\n")
+        terminal.enter("families f")
+        os.remove(os.path.join(self.folder, "f"))
+        terminal.save(AUTHOR.replace("'ity' ", ""))
+        self.assertIn("families: f cannot be read: there is no such file\n", terminal.got(b"since the mark"))
+        write(os.path.join(self.folder, "f"), "\n")
+        terminal.save(AUTHOR)
+        self.assertIn("families: f has no words\n", terminal.got(b"no class differs"))
+
+    def test_how_many_words_begin_so(self):
+        folder = self.room(my_sbl=AUTHOR, my_words="".join("word%03d\n" % i for i in range(300)))
+        terminal = self.terminal(folder, "my.sbl", "my.words", term="xterm")
+        terminal.got(rb"> ")
+        self.assertIn("(300 begin so)", terminal.type("why word\t\t", rb"begin so\)", 5))
+        self.assertIn("word123", terminal.type("123\r", rb"stem +word123"))
 
     def test_signals_that_break_the_settings_off(self):
         calls = []

@@ -1,1 +1,1 @@
-"""A client of the rows of `work`: what an author sees at a terminal. Python 3.9, standard library only."""
+"""The client of the rows of `work`, which the faces share: a terminal, a page, an editor. Python 3.9, standard library only."""

@@ -189,7 +189,7 @@ class Bench(Stage):
             self.changes = self.read("changes") if argument else []
         elif word == "families" and argument:
             found = pairs_of(reply)
-            self.families, self.pairs = (argument, found) if found and found[0].within != "0" else ("", ())
+            self.families, self.pairs = (argument, found) if found and found[0].within != "0" else (self.families, self.pairs)
         if word in ("add", "remove", "words", "append"):
             self.kept.note("added", self.added)
         if word in ("add", "remove", "words", "mark"):
@@ -278,7 +278,9 @@ class Bench(Stage):
         is_same = is_not_held or before == now
         if word == "limit":
             return "the same limit" if is_same else "limit"
-        return "the same script" if word not in ("undo", "redo", "reload") and is_same else ""
+        if word in ("undo", "redo", "reload") or not is_same:
+            return ""
+        return "the same script" if before.text == now.text else "the same tokens"
 
     def note_text(self, word: str, before: Moment, history: Sequence[Any], done: Sequence[Any]) -> Optional[Tuple[str, ...]]:
         """Notes which texts files have. Returns the names of the typed edits that a reload replaced."""

@@ -64,6 +64,8 @@ STRANGE: Sequence[Tuple[str, str]] = (
     (r"warnings( |\Z)", "lint lists what may not be meant in the script and the words."),
     *((r"%s( |\Z)" % verb, ("{c} is not a command here. In a shell: {called} {c} %s" % files).rstrip() + ".") for verb, files in IN_SHELL.items()),
     (r"(%s)\s*>" % REPORT, INTO_FILE),
+    (r"test \S", "tests WORD shows the tests of the run of a word."),
+    (r"delete \S", "remove WORD takes a word out of the vocabulary."),
     (COMMENT, "A comment begins with # at the beginning of the line. replace takes a whole script, up to a line with a single point."),
     (r"\s*([\[\](')$]|(%s)( |\Z))" % "|".join(OF_SCRIPT), "This is no command, but of a script, perhaps, and no block is open: routine NAME, among NAME K or grouping NAME opens one."),
     (r"define( |\Z)", "A definition begins with define NAME as, or define NAME and the terms of a grouping, in one line."),

@@ -1,6 +1,6 @@
 """What the program says about a fault, fitted to a window, with columns as an editor counts them, names of files, and advice."""
 import re
-from typing import Any, List, Optional, Sequence, Tuple
+from typing import Any, Iterable, List, NamedTuple, Optional, Sequence, Tuple
 
 from .language import ITEMS
 from .layout import named, short
@@ -12,10 +12,32 @@ from .words import converting, in_shell, unreadable
 INDENT = "    "
 CANNOT_BE_READ = re.compile(r"snowbench: (.+): [^:]+ \(os error \d+\)")
 CODE = re.compile(r"snowbench: (\d+) (\w+)")
+# What follows the name of a file: line, column and sentence.
+PLACE = re.compile(r":(\d+):(\d+): (.*)", re.S)
 # What is said of a script without an external; what of `non` and a grouping in one word, if no other name is near it.
 NO_EXTERNAL = ": the script declares no external: "
 NEGATED = re.compile(r": non_?([A-Za-z][A-Za-z0-9_]*) is not declared\. (?:Did you mean non\?|Declare )")
+CLOSED = re.compile(r":(\d+):(\d+): this \) closes no parenthesis\b.*\Z")
 OPEN = re.compile(r":(\d+):(\d+): .*; the \( of (\d+):(\d+) is still open\Z")
+# A parenthesis, its place, how far its line is indented, and whether it begins that.
+Parenthesis = NamedTuple("Parenthesis", [("text", str), ("row", int), ("column", int), ("indent", int), ("is_first", bool)])
+
+
+class Place(NamedTuple):
+    """Where a fault is, how many characters it has, and its sentence; zeros if it is of the whole text."""
+
+    line: int
+    column: int
+    length: int
+    sentence: str
+
+
+def place_of(said: Sequence[str], *names: str) -> Place:
+    """Returns the place of the first fault in what is said of a file with one of these names."""
+    found = [PLACE.match(line[len(name) :]) for line in said for name in names if line.startswith(name + ":")]
+    place = next(filter(None, found), None)
+    carets = next((line for line in said if line.strip() and not line.strip("^ ")), "")
+    return Place(int(place[1]), int(place[2]), carets.count("^"), place[3]) if place else Place(0, 0, 0, " ".join(said))
 
 
 def code_of(said: Sequence[str]) -> int:
@@ -71,7 +93,7 @@ def without_following(found: Sequence[Any]) -> List[Any]:
 
 def needs_tokens(said: Sequence[str]) -> bool:
     """Whether more can be said of a fault by the tokens of the script."""
-    return any(NO_EXTERNAL in line or NEGATED.search(line) or OPEN.search(line) for line in said)
+    return any(NO_EXTERNAL in line or NEGATED.search(line) or OPEN.search(line) or CLOSED.search(line) for line in said)
 
 
 def lacking(text: Optional[bytes], tokens: Sequence[Token]) -> str:
@@ -90,21 +112,48 @@ def negated(line: str, tokens: Sequence[Token]) -> str:
 
 
 def by_layout(line: str, text: bytes, tokens: Sequence[Token]) -> str:
-    """Returns which bracket lacks its end, perhaps: the first one that is closed by one which begins a line and is farther left than the line of
-    that bracket. The program names one that is open at the end, and looks at no layout."""
-    found = OPEN.search(line)
-    if not found or line.startswith(INDENT):
+    """Returns which parenthesis lacks its other one, perhaps, by the lines that begin with one. The program looks at no layout."""
+    if line.startswith(INDENT):
         return ""
-    end, begin = (tuple(map(int, place)) for place in ((found[1], found[2]), (found[3], found[4])))
-    opened: List[Tuple[int, int, int]] = []
+    if found := OPEN.search(line):
+        end, begin = (tuple(map(int, place)) for place in ((found[1], found[2]), (found[3], found[4])))
+        return lacking_end(parentheses(text, tokens, begin, end))
+    found = CLOSED.search(line)
+    return lacking_begin(parentheses(text, tokens, (0, 0), (int(found[1]), int(found[2]))), text.split(b"\n")) if found else ""
+
+
+def parentheses(text: bytes, tokens: Sequence[Token], begin: Tuple[int, ...], end: Tuple[int, ...]) -> Iterable[Parenthesis]:
     for token in (token for token in tokens if token.kind != "comment" and token.text in ("(", ")")):
         place, before = line_and_column(text, token.start), text[: token.start].rpartition(b"\n")[2]
-        if begin < place < end and token.text == "(":
-            opened.append((*place, len(before) - len(before.lstrip())))
-        elif begin < place < end and opened:
-            row, column, indent = opened.pop()
-            if row < place[0] and not before.strip() and len(before) < indent:
-                return ". By the layout, the ( of %d:%d lacks its )" % (row, column)
+        if begin < place < end:
+            yield Parenthesis(token.text, *place, len(before) - len(before.lstrip()), not before.strip())
+
+
+def lacking_end(found: Iterable[Parenthesis]) -> str:
+    """Returns which ( is the first that is closed by a line which begins farther left than its own."""
+    opened: List[Parenthesis] = []
+    for one in found:
+        if one.text == "(":
+            opened.append(one)
+        elif opened:
+            begin = opened.pop()
+            if begin.row < one.row and one.is_first and one.indent < begin.indent:
+                return ". By the layout, the ( of %d:%d lacks its )" % (begin.row, begin.column)
+    return ""
+
+
+def lacking_begin(found: Iterable[Parenthesis], lines: Sequence[bytes]) -> str:
+    """Returns the line that lacks its (: the one above the first ) which begins a line as far right, and closes a ( of a line farther left."""
+    opened: List[Parenthesis] = []
+    for one in found:
+        if one.text == "(":
+            opened.append(one)
+        elif opened:
+            begin = opened.pop()
+            rows = range(one.row - 1, begin.row, -1) if one.is_first and one.indent > begin.indent else ()
+            row = next((row for row in rows if lines[row - 1].strip() and len(lines[row - 1]) - len(lines[row - 1].lstrip()) <= one.indent), 0)
+            if row and len(lines[row - 1]) - len(lines[row - 1].lstrip()) == one.indent:
+                return ". By the layout, line %d lacks the ( that the ) of %d:%d closes" % (row, one.row, one.column)
     return ""
 
 

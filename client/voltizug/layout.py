@@ -46,14 +46,14 @@ def padded(text: str, column: int) -> str:
 
 
 def broken(line: str, width: int) -> List[str]:
-    """Returns a line as lines that fit: broken at blanks and commas, but not in a number, and not in a command that is to be copied: the terminal
-    does that. The others are indented, or below what follows a label."""
+    """Returns a line as lines that fit: broken at blanks and commas, but not in a number or before one that ends an item, and not in a command
+    that is to be copied: the terminal does that. The others are indented, or below what follows a label."""
     if columns(line) <= width:
         return [line]
     label = LABEL.match(line)
     hang = " " * label.end() if label and label.end() <= width // 3 else line[: len(line) - len(line.lstrip())] + "    "
     lines = [""]
-    for part in re.split(r"(?<=[ ,])(?! |%|(?<=\d,)\d)", SHELL.sub(lambda found: found[0].translate(HELD), line)):
+    for part in re.split(r"(?<=[ ,])(?! |%|(?<=\d,)\d|\d+(?:, |\Z))", SHELL.sub(lambda found: found[0].translate(HELD), line)):
         if lines[-1].strip() and columns(lines[-1] + part.rstrip()) > width:
             lines[-1:] = [lines[-1].rstrip(), hang]
         lines[-1] += part.translate(RELEASED)
@@ -158,7 +158,7 @@ def summary(edit: Edit) -> str:
     """Returns the line that stands last after an edit."""
     text = figures(edit.changes)
     if edit.own == []:
-        text += " (this edit changed none)"
+        text += " (this %s changed none)" % (edit.command if edit.step else "edit")
     elif edit.own and edit.changes:
         text = "this %s: %s; %s" % (edit.command if edit.step else "edit", figures(edit.own, ""), text)
     if edit.command in ("undo", "redo"):

@@ -7,11 +7,12 @@ from typing import Any, Dict, Iterable, List, Sequence, Set, Tuple
 
 from .bench import Bench
 from .conditions import BODY
-from .editor.names import Names
 from .layout import counted, in_words, named, short
+from .names import Names
 from .near import composed
 from .places import LARGEST, Places
 from .rows import Outcome, Token
+from .words import in_shell
 
 # (of few words most letters are missing)
 MOST, FEW, MANY = 5, 50, 5000
@@ -311,7 +312,7 @@ def strange_strings(script: Script, outcomes: Sequence[Outcome]) -> Iterable[Lin
     # (`unused` names the strings of amongs)
     entries, whole = {int(row.start) for row in script.places.entries.values()}, "\n".join(texts)
     for start, string in sorted(strings.items()) if outcomes else []:
-        strange = list(map(letter, sorted(set(string) - there)))
+        strange = [letter(c, string) for c in sorted(set(string) - there)]
         # (of those in another form of Unicode a warning speaks once)
         if strange and len(composed(string)) == len(string):
             where = "the grouping" if start in members else "'%s'" % short(string)
@@ -327,8 +328,11 @@ def put_blanks(script: Script, outcomes: Sequence[Outcome]) -> Iterable[Lint]:
             yield token.start, "%s puts a blank into the text, and no word has one" % short(token.text)
 
 
-def letter(c: str) -> str:
-    """Returns a letter with its number if it is not of ASCII: letters of two alphabets can look the same. Of one that is not seen it is the number."""
+def letter(c: str, string: str) -> str:
+    """Returns a letter of a string with its number if it is not of ASCII, or others are of another alphabet: letters of two can look the same. Of one
+    that is not seen it is the number."""
+    if c.isascii() and c.isalpha() and any(other.isalpha() and not unicodedata.name(other, "LATIN").startswith("LATIN") for other in string):
+        return "%s (U+%04X, a Latin letter)" % (c, ord(c))
     number = {" ": "a blank", "\t": "a tab"}.get(c, "U+%04X" % ord(c))
     return c if "!" <= c <= "~" else "%s (%s)" % (c, number) if unicodedata.category(c)[0] in "LNPS" else number
 
@@ -360,10 +364,21 @@ def inserted(text: str, signs: str, macros: Dict[str, str]) -> str:
     return re.sub("%s(.*?)%s" % (re.escape(signs[0]), re.escape(signs[1])), value, text, flags=re.S) if signs else text
 
 
+def is_mostly(string: str, begins: bool, outcomes: Sequence[Outcome]) -> bool:
+    """Whether more words begin with a string than have it elsewhere, or end with it if not `begins`."""
+    found = Counter(row.word.startswith(string) if begins else row.word.endswith(string) for row in outcomes if string in row.word)
+    return found[True] > found[False]
+
+
 def wrong_ways(script: Script, bench: Bench, outcomes: Sequence[Outcome]) -> Iterable[Lint]:
-    """Amongs of which most strings are taken in no run, and are only at that end of words from which the among does not go."""
+    """Amongs that most runs search, of which most strings are taken in no run, and are in words mostly at that end from which the among does not go."""
     places, items, strings = script.places, script.names.items, {}  # type: Places, Any, Dict[Tuple[str, str], List[str]]
-    untaken = {(row.name, row.k, row.string) for row in bench.read("counts") if row.kind == "entry" and row.count == "0"}
+    counts = bench.read("counts")
+    untaken = {(row.name, row.k, row.string) for row in counts if row.kind == "entry" and row.count == "0"}
+    searched = {(row.name, row.k) for row in counts if row.kind == "among" and 2 * int(row.count) > len(outcomes)}
+    if 2 * sum(not row.stem for row in outcomes) > len(outcomes):
+        # (another command takes the whole words away)
+        return
     for name, k, string in places.entries:
         strings.setdefault((name, k), []).append(string)
     sizes = {len(string) for _, _, string in places.entries} - {0}
@@ -373,16 +388,16 @@ def wrong_ways(script: Script, bench: Bench, outcomes: Sequence[Outcome]) -> Ite
         True: "{0} runs backwards, and {1} of these strings, as '{2}', only begin words: perhaps it should be defined outside of backwardmode",
     }
     external = "{0} runs forwards, and {1} of these strings, as '{2}', only end words: perhaps its body should be backwards ( .. )"
-    for (name, k), there in ((key, there) for key, there in strings.items() if key[0] in items):
+    for (name, k), there in ((key, there) for key, there in strings.items() if key[0] in items and key in searched):
         start, is_back = int(places.amongs[name, k].start), items[name].is_backward
         near, far = (ends, begins) if is_back else (begins, ends)
-        odd = [string for string in there if (name, k, string) in untaken and string in far and string not in near]
+        odd = [string for string in there if (name, k, string) in untaken and string in far and string not in near and is_mostly(string, is_back, outcomes)]
         if 2 * len(odd) >= max(4, len(there)) and not any(token.text == "backwards" and token.start < start for token in places.part(name)):
             is_external = not is_back and script.names.kinds.get(name) == "external"
             yield start, (external if is_external else what[is_back]).format(name, len(odd), short(odd[0]))
 
 
-def strange_words(script: Script, outcomes: Sequence[Outcome]) -> List[str]:
+def strange_words(script: Script, outcomes: Sequence[Outcome], path: str) -> List[str]:
     """Words with capitals or signs that no string has, these if they are many, and words with the empty stem."""
     strings = [string for _, _, string in script.places.entries]
     signs = set("".join(re.sub("{[^}]*}", "", token.text) for token in script.tokens if token.kind == "literal"))
@@ -391,7 +406,7 @@ def strange_words(script: Script, outcomes: Sequence[Outcome]) -> List[str]:
     empty = [row.word for row in outcomes if (row.kind, row.stem) == ("stem", "")]
     many = "{:,} of {:,} words {} {}, as '{}'{}"
     return [many.format(len(found), len(outcomes), "has" if len(found) == 1 else "have", what, short(found[0]), then) for found, what, then in (
-        (large, "capitals", ", and no string of an among has one. For small letters: sed 's/.*/\\L&/' WORDS > NEW"),
+        (large, "capitals", ", and no string of an among has one. For small letters: LC_ALL=C.UTF-8 sed 's/.*/\\L&/' %s > NEW" % path),
         (signed if 2 * len(signed) > len(outcomes) else [], "a sign that is no letter", ", and no literal has it"), (empty, "the empty stem", ""),
     ) if found]
 
@@ -420,4 +435,4 @@ def lints(bench: Bench, has_all: bool = False) -> List[str]:
     shown = ["%s: %s" % (named(script.places.spot(start)), what) for start, what in sorted(found)]
     more = 0 if has_all else max(0, len(shown) - MOST)
     shown[len(shown) - more :] = ['.. and {:,} more: "lint" shows all'.format(more)] * (more > 0)
-    return shown + strange_words(script, outcomes)
+    return shown + strange_words(script, outcomes, in_shell(bench.words) if bench.words else "WORDS")

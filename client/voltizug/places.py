@@ -48,7 +48,21 @@ class Places:
     def spot(self, start: int) -> str:
         """Returns the place of a byte of the current text, in SCRIPT or in what was typed."""
         home = next((name for name, row in self.definitions.items() if int(row.start) <= start < int(row.end)), "")
-        return self.at(home, start) if home else "%s:%d:%d" % (self.script, *line_and_column(self.text, start))
+        if home:
+            return self.at(home, start)
+        same = self.same_in_file(start)
+        if same is not None:
+            return "%s:%d:%d" % (self.script, *line_and_column(self.file_text or b"", same))
+        return "not in %s: line %d of the current script" % (self.script, self.text.count(b"\n", 0, start) + 1)
+
+    def same_in_file(self, start: int) -> Optional[int]:
+        """Returns where SCRIPT has a byte of the current text, if what comes before its line, or after it, is the same there."""
+        text, file_text = self.text, self.file_text or b""
+        end = text.find(b"\n", start) % (len(text) + 1)
+        if text[:end] == file_text[:end]:
+            return start
+        rest = text[text.rfind(b"\n", 0, start) + 1 :]
+        return start + len(file_text) - len(text) if file_text.endswith(rest) else None
 
     def in_file(self, name: str) -> Optional[int]:
         """Returns where SCRIPT has a definition with the same bytes, once; otherwise nothing."""

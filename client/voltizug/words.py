@@ -72,9 +72,12 @@ NOTES: Dict[str, str] = {
     "fault gone": "The fault is gone: {script} has the current script again.",
     "undone in file": "{script} still has what undo took back: Enter reads it again.",
     "the same script": "The script has this already, so undo does not count it.",
+    "the same tokens": "The script has the same tokens, so undo does not count this. Its blanks and comments are as you typed them now.",
     "limit": "Each run may use {limit} now.",
     "the same limit": "Each run may use {limit} already, so undo does not count it.",
 }
+# What is said of a block whose text begins in its first line.
+ON_LINES = 'the text goes on the lines after it, and a line with a single point ends it. Type only "%s" first.'
 REFUSALS: Dict[str, str] = {
     "Slice": "delete, <- or -> found the left end of the slice right of its right end, or the right end beyond the limit. Look for a [ or ] that "
     "is missing before it, or in the wrong order: forwards [ sets the left end, backwards the right end.",
@@ -101,6 +104,9 @@ def refused(code: int, line: str, bench: Stage) -> str:
     command, _, argument = line.partition(" ")
     if code in (41, 42, 45, 53) and not argument:
         return "%s needs a %s: %s." % (command, COMMANDS[command].takes.partition(" ")[0].lower(), COMMANDS[command].usage)
+    if code in OF_WORDS and code != 75 and command == "words" and isinstance(bench, Bench):
+        path = bench.words or ""
+        return OF_WORDS[code].format(name=short(path), quoted=in_shell(path)) + " The words that were read stay."
     if code in SPECIAL:
         return SPECIAL[code](line, bench)
     name, k, string = [*argument.split(" ", 2), "", ""][:3]
@@ -131,11 +137,11 @@ def absent(line: str, bench: Stage) -> str:
 
 
 def misspelt(word: str, bench: Bench) -> str:
-    """Returns the question on a word that is not in the vocabulary, but near one that is; otherwise nothing."""
-    is_there = not bench.size or bench.known("class " + word) is not None
+    """Returns that a word is not in the vocabulary, with a question if it is near one that is; otherwise nothing."""
+    if not bench.size or bench.known("class " + word) is not None:
+        return ""
     is_many = " It was run as one word, with a blank in it." * (" " in word.strip())
-    question = "" if is_there else is_many or meant(word, bench.by_word())
-    return "%s is not in the vocabulary.%s" % (in_quotes(word, " " in word), question) if question else ""
+    return "%s is not in the vocabulary.%s" % (in_quotes(word, " " in word), is_many or meant(word, bench.by_word()))
 
 
 def no_class(line: str, bench: Stage) -> str:
@@ -162,8 +168,7 @@ def no_name(line: str, bench: Stage) -> str:
     places, kinds, name = bench.places(), NAMED[command], argument.partition(" ")[0]
     kind, there, begin = places.kind(name), places.of_kind(*kinds), "%s %s: " % (command, short(name))
     if name in there and command != "uses":
-        first = 'the text goes on the lines after it, and a line with a single point ends it. Type only "%s %s" first.' % (command, short(name))
-        return "show takes one name." if command == "show" else begin + first
+        return "show takes one name." if command == "show" else begin + ON_LINES % ("%s %s" % (command, short(name)))
     if kind:
         use = 'grouping, and has no among. Use "uses %s".' if command == "uses" else kind + '. Use "' + kind + ' %s".'
         return begin + "this is a " + use % short(name)
@@ -205,6 +210,9 @@ def unknown(line: str, bench: Stage) -> str:
         known = " " + amongs_of(line, bench) if places.kind(name) == "routine" else ""
         if entry:
             return entry
+        if command == "among" and known and (number := re.match(r"[0-9]+ ", string)):
+            begin = "among %s %s" % (short(name), number[0].strip())
+            return "%s: %s" % (begin, ON_LINES % begin)
         if known.endswith("no among."):
             return known.strip() + ' Use "uses %s".' % short(name) * (command == "uses")
         lacks = "a number" if known else "a name and a number" if command == "among" else "a name"

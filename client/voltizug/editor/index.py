@@ -2,8 +2,8 @@
 from bisect import bisect_right
 from typing import Dict, List, NamedTuple, Optional, Sequence, Tuple
 
+from ..names import Item, Names
 from ..rows import Token
-from .names import Item, Names
 
 # An among of a routine: its number, from 1, its word, and its strings.
 Among = NamedTuple("Among", [("name", str), ("k", int), ("word", Token), ("strings", List[Token])])

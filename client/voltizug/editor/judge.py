@@ -1,9 +1,9 @@
 """What the program says of a text that is in no file: its faults, its tokens, and what can come at a place. The text is read from memory."""
 import os
-import re
 from typing import Any, Dict, List, NamedTuple, Optional, Sequence, Set, Tuple
 
 from .. import rows
+from ..faults import place_of
 from ..language import COMMANDS, CONTROL, DECLARATIONS, ITEMS, OTHERS, VALUES
 from ..program import DONE, Memory, Program, Reply
 from .index import Index
@@ -11,31 +11,12 @@ from .texts import Text, by_characters, encoded
 
 # For how many seconds the program is asked about a text; how many faults, and how many lines that have no tokens, are looked at.
 PATIENCE, MOST, LINES = 20.0, 100, 5
-# What follows the name of a file: line, column and sentence.
-PLACE = re.compile(r":(\d+):(\d+): (.*)", re.S)
 # A routine of each mode.
 MODES = "externals ( stem ) routines ( ahead back ) define ahead as true backwardmode ( define back as true ) "
 # White space.
 BLANK = "\ufeff \t\r\n\v\f"
 # A fault of a text: its name in docs/LANGUAGE.md, from where to where it is, and the program's sentence.
 Fault = NamedTuple("Fault", [("name", str), ("start", int), ("end", int), ("sentence", str)])
-
-
-class Place(NamedTuple):
-    """Where a fault is, how many characters it has, and its sentence; zeros if it is of the whole text."""
-
-    line: int
-    column: int
-    length: int
-    sentence: str
-
-
-def place_of(said: Sequence[str], *names: str) -> Place:
-    """Returns the place of the first fault in what is said of a file with one of these names."""
-    found = [PLACE.match(line[len(name) :]) for line in said for name in names if line.startswith(name + ":")]
-    place = next(filter(None, found), None)
-    carets = next((line for line in said if line.strip() and not line.strip("^ ")), "")
-    return Place(int(place[1]), int(place[2]), carets.count("^"), place[3]) if place else Place(0, 0, 0, " ".join(said))
 
 
 def begun(command: str, external: str, script: Memory, words: Optional[str] = None) -> Program:

@@ -3,8 +3,8 @@ import re
 from typing import Any, Callable, List, Optional, Tuple
 
 from .. import layout, rows
+from ..comparison import comparison
 from ..layout import counted, named
-from ..page.comparison import comparison
 from ..program import Memory
 from ..rows import Token
 from ..words import Refused

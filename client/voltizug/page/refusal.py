@@ -4,7 +4,6 @@ from typing import Any, Dict, List, Optional, Sequence
 from .. import faults, words
 from ..bench import Bench
 from ..kept import read_file
-from ..editor.judge import place_of
 from ..layout import named
 from . import ink
 
@@ -17,7 +16,7 @@ def refusal(bench: Bench, said: Sequence[str], typed: Optional[str] = None) -> D
     script, data = bench.script, read_file(bench.script) or b""
     tokens = bench.tokens_of(script) if typed is None and faults.needs_tokens(said) else []
     lines = faults.shown(said, script, data if typed is None else None, 1 << 20, tokens) or [named(line) for line in said]
-    place = place_of(lines, named(script), "replace")
+    place = faults.place_of(lines, named(script), "replace")
     # (a fault of the words has no place in the script)
     is_of_script = place.line > 0 or typed is not None
     of_words = words.OF_WORDS.get(faults.code_of(said)) if bench.words and not is_of_script else None

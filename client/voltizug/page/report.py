@@ -13,11 +13,12 @@ import tempfile
 from typing import Any, Dict, List, NamedTuple, Sequence, Tuple
 
 from .. import reports, rows
+from ..comparison import comparison
 from ..kept import read_file
 from ..layout import counted, named
 from ..options import usual_program
 from ..program import Program
-from .comparison import comparison
+from ..words import unreadable
 from .ink import shown_text
 
 HERE = os.path.dirname(os.path.realpath(__file__))
@@ -282,6 +283,9 @@ def main(given: Sequence[str]) -> int:
     names = ["standard input" if name == "-" else name for name in (options.old, options.new, options.words)]
     room = tempfile.mkdtemp()
     try:
+        lacking = [name for name in (options.old, options.new, options.words) if name != "-" and (os.path.isdir(name) or not os.access(name, os.R_OK))]
+        if lacking:
+            raise Fault(["snowbench: %s cannot be read: %s" % (named(lacking[0]), unreadable(lacking[0]))])
         paths = [spooled(name, room) for name in (options.old, options.new, options.words)]
         found = compared(options.program, ["--external", options.external] if options.external else [], paths, names, room)
         files = [read_file(path) or b"" for path in paths]

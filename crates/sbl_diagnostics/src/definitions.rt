@@ -154,9 +154,10 @@ pub(crate) fn push_wrong_mode(shown: &mut String, place: Place<'_>) -> Result<()
         ),
         Some(Definition::Backward) if is_condition => {
             shown.push_str(
-                " is defined in backward mode, but used in forward mode: take a routine that is defined outside of backwardmode as backwards ",
+                " is defined in backward mode, but used in forward mode: outside of backwardmode define a routine as backwards ",
             )?;
-            push_cut(shown, spot.token)
+            push_cut(shown, spot.token)?;
+            shown.push_str(", and name that one here")
         }
         Some(Definition::Backward) if follows_backwards(&before) => shown.push_str(
             " is defined in backward mode, but used in forward mode: the backwards before this runs one command. To run several, write backwards ( .. )",

@@ -101,7 +101,7 @@ pub(crate) fn push_insertion(shown: &mut String, place: Place<'_>) -> Result<(),
 }
 
 /// Appends what is wrong with a literal or an insertion by its fault alone. If a literal has no closing quote and begins at the
-/// end of another one, its quote may be meant as one inside of that one.
+/// end of another one, or if its line has two quotes after a letter, a quote may be meant as one inside of a literal.
 fn push_unclosed(
     shown: &mut String,
     place: Place<'_>,
@@ -110,8 +110,10 @@ fn push_unclosed(
     let Place { faulty, spot } = place;
     shown.push_str(reason(faulty.fault))?;
     let before = faulty.text.get(..spot.begin).unwrap_or(&[]);
+    let line = line_at(faulty.text, position_of(faulty.text, spot.begin).line);
     let follows_quote = matches!(before.last(), Some(byte) if *byte == b'\'');
-    if !follows_quote || !matches!(faulty.fault, ScriptFault::UnclosedString { .. }) {
+    let is_meant = follows_quote || doubles_quote(line);
+    if !is_meant || !matches!(faulty.fault, ScriptFault::UnclosedString { .. }) {
         return Ok(());
     }
     shown.push_str(". A quote in a literal is ")?;
@@ -123,6 +125,21 @@ fn push_unclosed(
             shown.push(inserts.closing)
         }
     }
+}
+
+/// Returns whether a line has two quotes after a letter, as other languages write a quote in a literal.
+fn doubles_quote(line: &[u8]) -> bool {
+    let mut follows_letter = false;
+    let mut follows_quote = false;
+    for byte in line {
+        let is_quote = *byte == b'\'';
+        if is_quote && follows_quote {
+            return true;
+        }
+        follows_quote = is_quote && follows_letter;
+        follows_letter = byte.is_ascii_alphabetic() || !byte.is_ascii();
+    }
+    false
 }
 
 /// Returns whether a quote is before an offset, and between them no white space.

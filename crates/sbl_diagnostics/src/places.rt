@@ -22,6 +22,9 @@ const BEFORE: usize = 60;
 /// How many characters of a line are shown (our own choice).
 const SHOWN: usize = 120;
 
+/// What is shown for the part of a line that is left out.
+const LEFT_OUT: &str = "..";
+
 /// Returns the fault of a script, if it has one. Returns `OutOfMemory` if an allocation fails.
 pub fn fault_of(alloc: Global, text: &[u8], external: &str) -> Option<ScriptFault>
     ensures fault { IfSome result (λ f. (f ≡ ScriptFault.OutOfMemory) ⊎ IsFaultOf text.now external.now f) }
@@ -176,9 +179,15 @@ fn push_line(
     let rest = characters.get(first..).unwrap_or(&[]);
     let part = rest.get(..SHOWN).unwrap_or(rest);
     let place = before.saturating_sub(first).min(part.len());
+    let begin = if first > 0 { LEFT_OUT } else { "" };
     shown.push_str("\n    ")?;
+    shown.push_str(begin)?;
     push_shown(shown, part)?;
+    if part.len() < rest.len() {
+        shown.push_str(LEFT_OUT)?;
+    }
     shown.push_str("\n    ")?;
+    push_times(shown, ' ', begin.len())?;
     push_blanks(shown, part.get(..place).unwrap_or(&[]))?;
     let token = part.get(place..).unwrap_or(&[]);
     push_carets(shown, token.get(..length).unwrap_or(token))

@@ -390,9 +390,13 @@ fn push_left_out(shown: &mut String, place: Place<'_>) -> Result<(), AllocError>
     Ok(())
 }
 
-/// Returns whether these tokens end with `$` and a name.
+/// Returns whether these tokens end with `$` and a name, or with `$(` and a name or a value.
 fn end_in_subject(tokens: &[Token<'_>]) -> bool {
     match tokens {
+        [.., dollar, open, _]
+            if dollar.kind == Kind::Sign(Sign::Dollar) && open.kind == Kind::Sign(Sign::Open) => {
+            true
+        }
         [.., prior, last] => prior.kind == Kind::Sign(Sign::Dollar) && last.kind == Kind::Name,
         _ => false,
     }

@@ -5,7 +5,7 @@ use crate::declarations::{DeclaredName, declaration_of, names_of};
 use crate::definitions::is_at_terms;
 use crate::foreign::advice_on;
 use crate::grammar::is_operator;
-use crate::near::{push_listed, push_near, push_near_word};
+use crate::near::{is_word_nearer, push_listed, push_near, push_near_word};
 use crate::sentences::{Faulty, Place, tokens_of};
 use sbl_script::Part;
 use sbl_text::{Kind, Sign, Token, Word};
@@ -208,7 +208,10 @@ fn push_way_out(
     let name = spot.token;
     let need = need_at(place);
     let names = usable_names(faulty.alloc, declared, faulty.part, need)?;
-    if push_near(faulty.alloc, shown, name, &names)? {
+    let before = place.tokens_before();
+    let is_word = need.usage == Usage::Command
+        && is_word_nearer(faulty.alloc, name, &names, &before, faulty.part)?;
+    if !is_word && push_near(faulty.alloc, shown, name, &names)? {
         if need.usage == Usage::New {
             return push_declaration(shown, place, need, " If not, declare", ".");
         }
@@ -221,7 +224,6 @@ fn push_way_out(
         shown.push_str(" ")?;
         return shown.push_str(advice);
     }
-    let before = place.tokens_before();
     if push_near_word(faulty.alloc, shown, name, &before, faulty.part)? {
         return push_declaration(shown, place, need, " If not, declare", ".");
     }

@@ -3,7 +3,7 @@
 ghost use Rattle.std.specs.Prelude.{◌≡◌, ◌/◌, min};
 ghost use Rattle.std.specs.Duration.{as_nanos};
 
-use crate::blocks::line_count;
+use crate::blocks::{first_empty_line, line_count};
 use crate::failures::{Failure, REFUSED, plain};
 use crate::run_files::RunFiles;
 use std::alloc::{AllocError, Global};
@@ -43,11 +43,25 @@ pub fn same_count(alloc: Global, files: &RunFiles<'_>) -> Result<u64, Failure> {
         return Ok(count);
     }
     let (words, stems) = (files.words.name, files.rest.name);
+    let longer = if count < other {
+        &files.rest
+    } else {
+        &files.words
+    };
+    let empty = first_empty_line(&longer.bytes);
     let count = count_and_word(alloc, count, "line", "lines")?;
     let other = count_and_word(alloc, other, "line", "lines")?;
-    let line = format!(in alloc;
-        "snowbench: {words} has {count} and {stems} has {other}: each word needs its stem"
-    );
+    let line = match empty {
+        None => format!(in alloc;
+            "snowbench: {words} has {count} and {stems} has {other}: each word needs its stem"
+        ),
+        Some(number) => {
+            let name = longer.name;
+            format!(in alloc;
+                "snowbench: {words} has {count} and {stems} has {other}: each word needs its stem, and line {number} of {name} is empty"
+            )
+        }
+    };
     Err(Failure::of_line(line, REFUSED))
 }
 

@@ -9,9 +9,10 @@ import re
 import readline
 import select
 import signal
+import subprocess
 import sys
 import termios
-from typing import Any, Callable, List, Optional, Tuple
+from typing import Any, Callable, Dict, List, Optional, Sequence, Tuple
 
 HISTORY, INTERRUPT, PAUSE = 2000, b"\x03", 0.1
 # How often files are looked at, and how soon again after a change (a file may still be being written); how often signals are if no file is.
@@ -76,8 +77,8 @@ class Editor:
         self.is_waiting = self.is_above = self.is_interrupted = self.is_ended = False
         # The lines that came with one that was pasted; what TAB can complete.
         self.pending, self.found = [], []  # type: List[str], List[str]
-        # The saved files at the last look.
-        self.looked: Any = None
+        # The saved files at the last look; the pager that has the terminal.
+        self.looked, self.pager = None, None  # type: Any, Optional[subprocess.Popen[bytes]]
         self.on_interrupt: Callable[[], None] = lambda: None
 
     def begin(self) -> None:
@@ -109,17 +110,27 @@ class Editor:
         raise Hangup(number)
 
     def hear_stop(self, *_: object) -> None:
-        """Ctrl-Z: gives the terminal back, and takes it again after fg."""
+        """Ctrl-Z: gives the terminal back, and takes it again after fg. A pager stops, too: less, as it is run here, does not by itself."""
+        pager = self.pager
         if self.is_waiting and self.library:
             self.library.rl_deprep_terminal()
+        if pager:
+            held = termios.tcgetattr(0)
+            pager.send_signal(signal.SIGSTOP)
         print(flush=True)
         set_keys(self.base)
         signal.signal(signal.SIGTSTP, signal.SIG_DFL)
         os.kill(os.getpid(), signal.SIGTSTP)
         signal.signal(signal.SIGTSTP, self.hear_stop)
+        if pager:
+            # (it draws its page again)
+            set_keys(held)
+            pager.send_signal(signal.SIGCONT)
+            pager.send_signal(signal.SIGWINCH)
 
     def hear_continue(self, *_: object) -> None:
-        set_keys(self.typing if self.is_waiting else self.quiet)
+        if not self.pager:
+            set_keys(self.typing if self.is_waiting else self.quiet)
         if self.is_waiting and self.library:
             self.library.rl_prep_terminal(1)
             self.draw()
@@ -207,10 +218,16 @@ class Editor:
         """Returns how many rows more than one the line takes above which a save is shown."""
         return (len(readline.get_line_buffer()) + 2) // columns if self.is_above else 0
 
-    def lend(self, is_lent: bool) -> None:
-        """Lends the terminal to a pager, or takes it back."""
+    def show_in(self, command: Sequence[str], text: bytes, environment: Dict[str, str]) -> None:
+        """Lends the terminal to a pager, and takes it back."""
         self.is_interrupted = False
-        set_keys(self.base if is_lent else self.quiet)
+        set_keys(self.base)
+        try:
+            with subprocess.Popen(command, stdin=subprocess.PIPE, env=environment) as self.pager:
+                self.pager.communicate(text)
+        finally:
+            self.pager, self.is_interrupted = None, False
+            set_keys(self.quiet)
 
     # History and TAB
 

@@ -2,7 +2,7 @@
 import subprocess
 from typing import List, Optional, Sequence, Tuple
 
-from ..program import in_memory, lines_of
+from .program import in_memory, lines_of
 
 
 def comparison(program: str, words: Sequence[str], seconds: Optional[float] = None) -> Tuple[List[str], List[str]]:

@@ -4,14 +4,14 @@ import re
 from collections import Counter
 from typing import Any, Dict, List, Optional, Sequence
 
-from . import faults, kept, layout, lints, loops, rows, warn, words
-from .bench import Bench, Edit
-from .commands import BLOCKS, COMMENT, DECLARATION, OPEN_BLOCKS
+from .. import faults, kept, layout, lints, loops, rows, warn, words
+from ..bench import Bench, Edit
+from ..commands import BLOCKS, COMMENT, DECLARATION, OPEN_BLOCKS
+from ..layout import counted, in_words, short, sizes
+from ..options import CALLED, Options
+from ..program import BROKEN, BROKEN_OFF, DONE, ENDED, ROWS, Reply, Skipped
 from .completion import Completion
 from .keys import Editor, Hangup
-from .layout import counted, in_words, short, sizes
-from .options import CALLED, Options
-from .program import BROKEN, BROKEN_OFF, DONE, ENDED, ROWS, Reply, Skipped
 from .screen import Screen
 
 # After so many lines, one after another, that are no command and came faster than one types, the rest is dropped.
@@ -187,8 +187,8 @@ class Desk:
         code, name = reply.refusal() or (0, "")
         self.show_fault(reply.said, lines)
         said = words.sentence(reply, lines, self.bench)
-        if lines[0] in ("reload", "words") and code != BROKEN_OFF[0] and self.warn(self.bench.words if lines[0] == "words" else None) and code == 75:
-            # (the warning says how the list becomes UTF-8)
+        if lines[0] in ("reload", "words") and code != BROKEN_OFF[0] and self.warn(self.bench.words if lines[0] == "words" else None) and code in (43, 75):
+            # (the warning says more)
             said = "Nothing changed."
         if lines[0] == "reload" and not os.path.lexists(self.bench.script):
             # (this says so)
@@ -268,12 +268,22 @@ class Desk:
             self.bench.program.is_summing = self.editor.is_interrupted = False
         limit = counted(int(self.bench.program.now.limit), "step")
         note = words.NOTES.get(edit.note, "").format(script=short(self.bench.script), limit=limit)
-        last = self.screen.broken([line for line in [*tail, note, self.note_words(), layout.families_line(edit.pairs), layout.summary(edit)] if line])
+        last = self.screen.broken([line for line in [*tail, note, self.note_words(), self.families_line(edit), layout.summary(edit)] if line])
         size = self.screen.size()
         room = max(1, size.lines - len(last) - 1 - self.editor.rows_typed(size.columns))
         found = layout.changes(own, added, room, '"last" shows all')
         self.screen.write([layout.cut(layout.named(line), size.columns) for line in found] + last)
         return True
+
+    def families_line(self, edit: Edit) -> str:
+        """Returns the figures of the families after an edit, or why there are none."""
+        path, line = self.bench.families, "families " + self.bench.families
+        if path and not (kept.read_file(path) or b"?").strip():
+            return "families: %s has no words" % short(path)
+        if edit.pairs or not path:
+            return layout.families_line(edit.pairs)
+        refusal = self.bench.ask(line).refusal()
+        return "families: " + words.refused(refusal[0], line, self.bench) if refusal else ""
 
     def more_on(self, edit: Edit, lines: Sequence[str], own: Sequence[Any]) -> List[str]:
         """Returns what is said of an accepted edit beside its figures, for which the program is asked more."""

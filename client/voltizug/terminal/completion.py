@@ -3,11 +3,11 @@ import glob
 import os
 from typing import Iterable, List
 
-from . import rows
-from .bench import Bench
-from .commands import COMMANDS, NAMED, UNLISTED
+from .. import rows
+from ..bench import Bench
+from ..commands import COMMANDS, NAMED, UNLISTED
 
-# Of more completions there is only how they all begin.
+# Of more completions there is only how they all begin, or how many they are.
 MOST = 200
 
 
@@ -27,7 +27,11 @@ class Completion:
             found = files(rest if is_file else text, text)
         else:
             found = sorted(name for name in self.candidates(command, has_more, rest) if name.startswith(text))
-        return found if len(found) <= MOST else [os.path.commonprefix(found)]
+        if len(found) <= MOST:
+            return found
+        begin = os.path.commonprefix(found)
+        # (readline lists both, and puts in what they have in common: the text)
+        return [begin] if begin != text else [text, "({:,} begin so)".format(len(found))]
 
     def candidates(self, command: str, has_more: str, rest: str) -> Iterable[str]:
         """Returns what can come: names of the script, a command, the number of an among, or one of its strings."""

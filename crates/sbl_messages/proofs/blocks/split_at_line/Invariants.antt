@@ -1,5 +1,5 @@
 use Rattle.std.proofs.Common.{length}
-use Rattle.sbl_messages.proofs.blocks.split_at_point.Given as goal
+use Rattle.sbl_messages.proofs.blocks.split_at_line.Given as goal
 
 abbrev pub decreases-loop-line : goal.decreases-loop-line
 decreases-loop-line l = length l.rest

@@ -2,11 +2,10 @@
 import contextlib
 import os
 import shlex
-import subprocess
 import sys
 from typing import List, Sequence
 
-from . import layout
+from .. import layout
 from .keys import Broken, Editor, Hangup
 
 # A terminal that does not tell its size, and the least that is taken as one; how many lines are written before it is looked whether Ctrl-C came.
@@ -59,11 +58,8 @@ class Screen:
     def page(self, lines: Sequence[str]) -> bool:
         """Has the pager show lines; returns whether there is one."""
         text = "".join(line + "\n" for line in lines).encode("utf-8", "replace")
-        self.editor.lend(True)
         try:
-            subprocess.run(shlex.split(os.environ.get("PAGER") or "less"), input=text, env={**LESS, **os.environ}, check=False)
+            self.editor.show_in(shlex.split(os.environ.get("PAGER") or "less"), text, {**LESS, **os.environ})
             return True
         except (OSError, ValueError):
             return False
-        finally:
-            self.editor.lend(False)

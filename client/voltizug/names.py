@@ -4,8 +4,8 @@ everywhere, and a reserved word is no name; so no grammar is needed.
 from itertools import accumulate, takewhile
 from typing import Dict, List, NamedTuple, Sequence
 
-from ..language import DECLARATIONS, ITEMS
-from ..rows import Token
+from .language import DECLARATIONS, ITEMS
+from .rows import Token
 
 # A definition: the token of its name, its first and last tokens by number, whether it is of a routine, and whether it is backward.
 Item = NamedTuple("Item", [("name", Token), ("first", int), ("last", int), ("is_routine", bool), ("is_backward", bool)])

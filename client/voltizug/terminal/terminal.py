@@ -8,16 +8,16 @@ from collections import Counter
 from operator import ne
 from typing import Any, List, Sequence, Tuple
 
-from . import commands, kept, layout, lints, loops, options, reports, rows, warn, words
-from .bench import Bench, typed_edits
-from .commands import BEFORE_FILE, BLOCKS, COMMANDS, LANGUAGE, NO_FILE, OPEN_BLOCKS, REPORTING, ROWS, WITH_TEXT
-from .conditions import with_tests
+from .. import commands, kept, layout, lints, loops, options, reports, rows, warn, words
+from ..bench import Bench, typed_edits
+from ..commands import BEFORE_FILE, BLOCKS, COMMANDS, LANGUAGE, NO_FILE, OPEN_BLOCKS, REPORTING, ROWS, WITH_TEXT
+from ..conditions import with_tests
+from ..layout import counted, in_words, short
+from ..near import composed, meant
+from ..places import BOM, readable
+from ..program import BROKEN, DONE, ENDED, encoded
 from .desk import Desk
 from .keys import Broken, Dropped, Hangup
-from .layout import counted, in_words, short
-from .near import composed, meant
-from .places import BOM, readable
-from .program import BROKEN, DONE, ENDED, encoded
 
 DEFINITION = re.compile(r"\s*define\s+([A-Za-z][A-Za-z0-9_]*)\s+(as(?=\s|$))?")
 TO_FILE = re.compile(r"(.*\S)\s+>\s*(\S+|[^|>\s][^|>]*\S)\s*\Z")
@@ -73,7 +73,10 @@ class Terminal(Desk):
                 self.edit([line or "reload"])
         elif command in BLOCKS or line in OPEN_BLOCKS:
             self.read_block(line)
-        elif definition := DEFINITION.match(line):
+        elif (definition := DEFINITION.match(line)) and not definition[2] and (line[definition.end() :][:1] == "(" or self.bench.places().kind(definition[1]) == "routine"):
+            self.screen.say("After the name of a routine comes as: define %s as .. Nothing was done." % short(definition[1]))
+            self.drop_pasted()
+        elif definition:
             self.read_block("%s %s" % ("routine" if definition[2] else "grouping", definition[1]), line)
         elif command in ("save", "approve"):
             self.write(command, argument.strip())
@@ -124,6 +127,7 @@ class Terminal(Desk):
         there = [row.word + "\n" + row.stem for row in self.bench.outcomes()] if not lines and not text.isascii() else []
         other = " in this form of Unicode (NFC and NFD are different words)" * any(composed(text) in composed(names) for names in there)
         other = other or " (these are letters, and no pattern)" * bool(re.search(r"[][^$.*+?|\\]", text))
+        other = other or (", with the blank at its %s" % ("beginning" if text[0] == " " else "end") if text.strip(" ") not in ("", text) else "")
         return [reports.EMPTY["find"] + other] if not lines else reports.laid_out("find", lines, self.bench.places)
 
     def reply_remove(self, word: str, _: Sequence[str]) -> List[str]:
@@ -143,6 +147,9 @@ class Terminal(Desk):
         endless = [row.word for row in self.bench.outcomes() if row.kind == "refused" and row.stem in loops.NAMES][:1]
         found = [*lints.lints(self.bench, has_all=True), *(loops.ending(word, self.bench) for word in endless)]
         return [*warn.warnings_on(self.bench.script, self.bench.words), *filter(None, found)] or ["nothing was found"]
+
+    def reply_runs(self, _: str, lines: Sequence[str]) -> List[str]:
+        return ["{:,}".format(int(line)) for line in lines]
 
     def reply_script(self, *_: object) -> List[str]:
         return readable(self.bench.program.now.text).rstrip("\n").split("\n")
@@ -169,7 +176,9 @@ class Terminal(Desk):
         first = ["The first word that is not in the vocabulary is %s." % words.in_quotes(word) for word in strange]
         families = Counter(word for line in text.splitlines() for word in dict.fromkeys(re.split("[ \t,]+", line)) if word)
         first += ["%s is in more than one family, and counts in the first one." % words.in_quotes(word) for word, count in families.items() if count > 1][:1]
-        return mark + warn.on_lines(layout.named(path), path, text, warn.DECOMPOSED) + first + reports.families(lines)
+        others = self.bench.families if self.bench.families not in ("", path) else ""
+        then = ["After edits the figures are of %s." % short(others)] * bool(others)
+        return mark + warn.on_lines(layout.named(path), path, text, warn.DECOMPOSED) + first + reports.families(lines) + then
 
     def reply_why(self, word: str, lines: Sequence[str]) -> List[str]:
         figures, events, _ = self.run_of(word, lines)
@@ -215,15 +224,16 @@ class Terminal(Desk):
         sizes = words.lines_and_words(path, len(outcomes))
         now = [encoded(row.stem) for row in outcomes]
         others, shifted = sum(map(ne, stems, now)), layout.shifted(stems, now)
+        text = b"\n".join(stems).decode("utf-8", "surrogateescape")
+        is_text = not re.search("[\udc80-\udcff]", text)
         doubt = sizes + ". " if len(stems) != len(outcomes) else ""
         doubt += "Most lines of %s are other stems. It needs the stems alone, one on a line, in the order of the words: the same line again takes it." % short(path)
         moved = "%s. It seems that words were put in before %s: then each stem after it would be compared with that of another word. Put new words "
         moved += "at the end, or approve the stems again. The same line again takes them as they are."
         if shifted is not None:
             doubt = moved % (sizes, words.in_quotes(outcomes[shifted].word))
-        if not self.is_sure(line, doubt if 2 * others > len(stems) <= len(outcomes) or shifted is not None else ""):
+        if not self.is_sure(line, doubt if is_text and (2 * others > len(stems) <= len(outcomes) or shifted is not None) else ""):
             return
-        text = b"\n".join(stems).decode("utf-8", "surrogateescape")
         mark = ["%s begins with a byte order mark, which is part of its first stem." % short(path)] * text.startswith("\ufeff")
         is_other = not any(map(warn.DECOMPOSED[0], (row.stem for row in outcomes)))
         self.screen.say(*mark, *(warn.on_lines(layout.named(path), path, text, warn.DECOMPOSED) if path and is_other else []))
@@ -256,7 +266,11 @@ class Terminal(Desk):
         line, name = "%s %s" % (command, path), short(path)
         if path and not self.may_write(line, path):
             return
-        before, stems, comments = kept.read_file(path), kept.read_lines(path), self.comments(path)
+        before, stems = kept.read_file(path), kept.read_lines(path)
+        # (a new file is compared with what SCRIPT had when edits were typed over it)
+        is_other = os.path.lexists(path) or hash(self.bench.program.now.text) in self.bench.read_texts
+        base = path if is_other else self.bench.kept.keep("base", self.bench.base or b"")
+        comments = self.comments(base) if command == "save" else 0
         reply = self.bench.write(command, path)
         is_same = kept.read_file(path) == before
         if reply.state == BROKEN or reply.state == ENDED and not is_same:
@@ -269,7 +283,8 @@ class Terminal(Desk):
         elif reply.is_done:
             lost = comments - self.comments(path)
             # (of the parts that were typed, or of a change of SCRIPT that undo took back)
-            self.screen.say("saved in %s" % name, "%s no longer in %s." % (counted(lost, "comment is", "comments are"), name) if lost > 0 else "")
+            where = "no longer in %s." % name if base == path else "in %s, but not in %s." % (short(self.bench.script), name)
+            self.screen.say("saved in %s" % name, "%s %s" % (counted(lost, "comment is", "comments are"), where) if lost > 0 else "")
 
     def may_write(self, line: str, path: str) -> bool:
         """Whether a command may write to a file; otherwise says why not. What is only doubtful is done if the line is typed again."""
@@ -303,7 +318,7 @@ class Terminal(Desk):
             size = counted(len(now), "word")
             for what, found in (("added", [word for word in now if word not in before]), ("removed", [word for word in before if word not in now])):
                 size += "; {:,} {}: {}".format(len(found), what, in_words(found, "and", 5)) if found else ""
-            self.screen.say(size)
+            self.screen.say(*self.new_lints(), size)
 
     def do_rescue(self, what: str) -> None:
         left, before = self.bench.kept.left(), self.bench.by_word()

@@ -1,0 +1,1 @@
+"""`work` at a terminal: lines are read, commands are answered, and changes are shown."""
