@@ -979,6 +979,17 @@ class Traps(Case):
         self.assertIn("90 words", shell.type("stats\r", rb"runs so far\n> "))
         shell.type("quit\r", rb"\$ $")
 
+    @unittest.skipIf(shutil.which("less") is None, "less is not installed")
+    def test_the_end_while_the_pager_has_the_terminal(self):
+        folder = self.room(my_sbl=AUTHOR, my_words="".join("word%03d\n" % i for i in range(90)))
+        terminal = self.terminal(folder, "my.sbl", "my.words", term="xterm", lines=10, PAGER="less")
+        terminal.got(rb"> ")
+        terminal.type("stems\r", rb"goes back")
+        processes = terminal.processes()
+        os.kill(processes[0], signal.SIGTERM)
+        self.assertEqual(terminal.ended(), 1)
+        self.assertEqual(alive(processes), [])
+
     def test_families_whose_file_is_gone_or_empty(self):
         terminal = self.begin()
         write(os.path.join(self.folder, "f"), "universe universal university\nnew news\n")

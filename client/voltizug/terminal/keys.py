@@ -224,7 +224,11 @@ class Editor:
         set_keys(self.base)
         try:
             with subprocess.Popen(command, stdin=subprocess.PIPE, env=environment) as self.pager:
-                self.pager.communicate(text)
+                try:
+                    self.pager.communicate(text)
+                except BaseException:
+                    self.pager.kill()
+                    raise
         finally:
             self.pager, self.is_interrupted = None, False
             set_keys(self.quiet)
