@@ -6,8 +6,8 @@ from typing import NamedTuple, Optional, Sequence
 
 from .near import meant
 
-HAS = "It has --watch, --rows, --text, --color WHEN, --no-pager, --external NAME, --from TEXT and --stop FILE"
-FLAGS, VALUES = ("--watch", "--no-pager", "--rows", "--text"), ("--program", "--color", "--external", "--from", "--stop")
+HAS = "It has --watch, --rows, --text, --color WHEN, --no-pager, --families FILE, --external NAME, --from TEXT and --stop FILE"
+FLAGS, VALUES = ("--watch", "--no-pager", "--rows", "--text"), ("--program", "--color", "--families", "--external", "--from", "--stop")
 THIRD = "Stems are for mark FILE and families for families FILE, at its prompt"
 COMMANDS_COME = "Its standard input has the commands"
 # How the reader calls the launcher.
@@ -29,6 +29,7 @@ class Options(NamedTuple):
     color: str = "auto"
     has_rows: bool = False
     passed: Sequence[str] = ()
+    families: str = ""
 
 
 def usual_program() -> str:
@@ -51,6 +52,7 @@ def options_of(given: Sequence[str], is_terminal: bool = False) -> Options:
         (not re.fullmatch(r"[A-Za-z][A-Za-z0-9_]*", external), "--external takes the name of an external, and %s is not a name" % external),
         (color not in ("auto", "always", "never"), "--color takes auto, always or never, and not %s" % color),
         (is_terminal and "--rows" not in found and {"--from", "--stop"} & found.keys(), "--from and --stop are for programs: they need --rows at a terminal"),
+        ("--families" in found and (not is_terminal or "--rows" in found), "--families is for a prompt: a program types families FILE"),
         (not files, "work needs a script"),
         (len(files) > 2, "work takes a script and a list of words, and no third file: %s. %s" % ("".join(files[2:3]), THIRD)),
         ("-" in files and not os.path.exists("-"), "work reads a script and words from files, and there is no file -. " + COMMANDS_COME),
@@ -61,5 +63,5 @@ def options_of(given: Sequence[str], is_terminal: bool = False) -> Options:
     passed += [part for key in ("--external", "--from", "--stop") if key in found for part in (key, found[key])]
     return Options(
         found.get("--program") or usual_program(), files[0], "".join(files[1:]) or None,
-        "--watch" in found, "--no-pager" not in found, color, "--rows" in found, passed
+        "--watch" in found, "--no-pager" not in found, color, "--rows" in found, passed, found.get("--families", "")
     )

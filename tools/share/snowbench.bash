@@ -7,7 +7,7 @@ _snowbench() {
     return
   fi
   case $command in
-    work) options='--external --watch --color --no-pager --rows --text --from --stop --help' ;;
+    work) options='--external --watch --color --no-pager --families --rows --text --from --stop --help' ;;
     run) options='--external --strict --as --help' ;;
     session) options='--external --strict --help' ;;
     stem) options='--external --help' ;;

@@ -29,6 +29,7 @@ complete -c snowbench -n '__fish_seen_subcommand_from work' -l external -x -d 'r
 complete -c snowbench -n '__fish_seen_subcommand_from work' -l watch -d 'read SCRIPT again each time that you save it'
 complete -c snowbench -n '__fish_seen_subcommand_from work' -l color -x -d 'at a terminal: auto, always or never'
 complete -c snowbench -n '__fish_seen_subcommand_from work' -l no-pager -d 'at a terminal: no pager for long reports'
+complete -c snowbench -n '__fish_seen_subcommand_from work' -l families -x -d 'at a terminal: families FILE at the start'
 complete -c snowbench -n '__fish_seen_subcommand_from work' -l rows -d 'rows and no prompt, also at a terminal'
 complete -c snowbench -n '__fish_seen_subcommand_from work' -l text -d 'in a pipe: the places of faults, too, on standard error'
 complete -c snowbench -n '__fish_seen_subcommand_from work' -l from -x -d 'with --rows or in a pipe: begin with the script in this file; reload and save mean SCRIPT'

@@ -109,7 +109,17 @@ class Desk:
             say("To see stems: add WORD, or start with a file of words: %s work SCRIPT WORDS" % CALLED)
         for path in self.paths:
             say("" if os.path.isfile(path) else "%s is no regular file, so work reads it once." % short(path))
-        say(sizes(figures))
+        say(self.first_families(), sizes(figures))
+
+    def first_families(self) -> str:
+        """Has the families of the command line compared from now on. Returns their figures, or why there are none."""
+        path, line = self.options.families, "families " + self.options.families
+        refusal = self.bench.ask(line).refusal() if path else None
+        if refusal:
+            return "families: " + words.refused(refusal[0], line, self.bench)
+        if path and not self.bench.families:
+            return "families: no line of %s has two words of the vocabulary" % short(path)
+        return layout.families_line(self.bench.pairs * 2)
 
     def misplaced(self) -> str:
         """Returns what is said if the second file looks like a script, and the first one does not, or the first one like a list of words."""

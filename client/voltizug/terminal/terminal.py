@@ -21,7 +21,7 @@ from .keys import Broken, Dropped, Hangup
 
 DEFINITION = re.compile(r"\s*define\s+([A-Za-z][A-Za-z0-9_]*)\s+(as(?=\s|$))?")
 TO_FILE = re.compile(r"(.*\S)\s+>\s*(\S+|[^|>\s][^|>]*\S)\s*\Z")
-USAGE = "usage: %s work [--watch] [--rows | --text] [--color WHEN] [--no-pager] [--external NAME] [--from TEXT] [--stop FILE] SCRIPT [WORDS]" % options.CALLED
+USAGE = "usage: %s work [--watch] [--rows | --text] [--color WHEN] [--no-pager] [--families FILE] [--external NAME] [--from TEXT] [--stop FILE] SCRIPT [WORDS]" % options.CALLED
 # Replies that are not broken, since an author wrote them.
 TEXTS = ("script", "show", "echo", *ROWS)
 # By report how many of its last lines are figures; what is asked for what the program does not know.
