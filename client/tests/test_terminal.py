@@ -441,7 +441,7 @@ define stem as backwards ( do r do s )
         self.assertIn("1 word, 1 split since the mark", terminal.enter("among plural 1", "among ( 'es' (delete) 'ss' 's' () )", ".", "changes"))
         again = "my.stems is there already. Nothing was written: the same line again overwrites it."
         self.assertEqual(terminal.enter("approve my.stems"), again)
-        self.assertEqual(terminal.enter("approve my.stems"), "The stems are in my.stems.")
+        self.assertEqual(terminal.enter("approve my.stems"), "The stems are in my.stems.\nThe edits that you typed are in no file: save FILE keeps them.")
         self.assertEqual(terminal.enter("mark my.stems"), "no word and no class differs from the mark")
         terminal.save("x\n" * 9, "my.stems")
         self.assertIn("has 9 lines, and there are 8 words: it needs a line for each word. The mark stays.", terminal.enter("mark my.stems"))

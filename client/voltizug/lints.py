@@ -406,7 +406,7 @@ def strange_words(script: Script, outcomes: Sequence[Outcome], path: str) -> Lis
     signed = [row.word for row in outcomes if not row.word.isalpha() and any(unicodedata.category(c)[0] in "PS" for c in set(row.word) - signs)]
     empty = [row.word for row in outcomes if (row.kind, row.stem) == ("stem", "")]
     there = {row.word for row in outcomes}
-    twice = [word for word in there if not word.isascii() and composed(word) != word and composed(word) in there]
+    twice = [word for word in there if not word.isascii() and composed(word) in there and word != composed(word) and len(composed(word)) >= len(word)]
     many = "{:,} of {:,} words {} {}, as '{}'{}"
     return [many.format(len(found), len(outcomes), "has" if len(found) == 1 else "have", what, short(found[0]), then) for found, what, then in (
         (large, "capitals", ", and no string of an among has one. For small letters: LC_ALL=C.UTF-8 sed 's/.*/\\L&/' %s > NEW" % path),
