@@ -441,7 +441,7 @@ define stem as backwards ( do r do s )
         self.assertIn("1 word, 1 split since the mark", terminal.enter("among plural 1", "among ( 'es' (delete) 'ss' 's' () )", ".", "changes"))
         again = "my.stems is there already. Nothing was written: the same line again overwrites it."
         self.assertEqual(terminal.enter("approve my.stems"), again)
-        self.assertEqual(terminal.enter("approve my.stems"), "The stems are in my.stems.")
+        self.assertEqual(terminal.enter("approve my.stems"), "The stems are in my.stems.\nThe edits that you typed are in no file: save FILE keeps them.")
         self.assertEqual(terminal.enter("mark my.stems"), "no word and no class differs from the mark")
         terminal.save("x\n" * 9, "my.stems")
         self.assertIn("has 9 lines, and there are 8 words: it needs a line for each word. The mark stays.", terminal.enter("mark my.stems"))
@@ -1000,6 +1000,25 @@ class Traps(Case):
         write(os.path.join(self.folder, "f"), "\n")
         terminal.save(AUTHOR)
         self.assertIn("families: f has no words\n", terminal.got(b"no class differs"))
+
+    def test_a_script_that_was_empty_and_is_gone_is_saved(self):
+        terminal = self.begin()
+        terminal.enter("routine long", "test hop 4", ".")
+        terminal.save("")
+        terminal.got(rb"script is empty(.|\n)*> $")
+        os.remove(os.path.join(self.folder, "my.sbl"))
+        terminal.got(rb"is gone(.|\n)*> $")
+        self.assertIn("saved in my.sbl", terminal.enter("save my.sbl"))
+        with open(os.path.join(self.folder, "my.sbl"), encoding="utf-8") as file:
+            self.assertIn("test hop 4", file.read())
+        self.assertIn("my.sbl has not changed since it was read", terminal.enter(""))
+
+    def test_many_lines_are_dropped_at_once(self):
+        terminal = self.begin()
+        began = time.monotonic()
+        terminal.send("\x15" + "".join("# a line %d\rnonsense\r" % i for i in range(3)) + "x y z\r" * 4000)
+        self.assertIn("were dropped", terminal.got(rb"were dropped\.\n> $", 60))
+        self.assertLess(time.monotonic() - began, 30)
 
     def test_how_many_words_begin_so(self):
         folder = self.room(my_sbl=AUTHOR, my_words="".join("word%03d\n" % i for i in range(300)))

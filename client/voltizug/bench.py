@@ -274,7 +274,7 @@ class Bench(Stage):
         if word == "reload" and before.text == now.text:
             return "fault gone" if had_fault else "unchanged" if self.file_text == now.text else "same"
         if word == "undo" and before.text == self.file_text != now.text:
-            return "undone in file"
+            return "refused in file" if had_fault else "undone in file"
         is_same = is_not_held or before == now
         if word == "limit":
             return "the same limit" if is_same else "limit"
@@ -359,7 +359,7 @@ class Bench(Stage):
             ("gone?", is_own and not is_there and self.script not in self.gone),
             ("gone", is_append and path == self.words and not os.path.lexists(path)),
             ("refused?", is_own and is_refused),
-            ("undone?", is_own and self.is_older and self.script not in self.saved()),
+            ("undone?", is_own and is_there and self.is_older and self.script not in self.saved()),
             ("again?", is_other and not is_save),
             ("there", is_other and name not in self.written),
             ("others", is_other),
@@ -367,10 +367,13 @@ class Bench(Stage):
 
     def write(self, command: str, path: str) -> Reply:
         is_own = self.is_script(path)
-        if is_own and not os.path.exists(path):
+        former = (self.file_text or b"" if self.refused_text is None else self.refused_text) if is_own and not os.path.exists(path) else None
+        if former is not None:
             # (the program overwrites only what it has read: so that is there again first)
-            write_file(self.script, self.refused_text or self.file_text or b"")
+            write_file(self.script, former)
         reply = self.ask("%s %s" % (command, self.script if is_own else path))
+        if former is not None and not reply.is_done and read_file(self.script) == former:
+            os.remove(self.script)
         if reply.is_done:
             self.written[os.path.realpath(path)] = state_of(path)
             if is_own:

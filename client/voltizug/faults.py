@@ -1,6 +1,6 @@
 """What the program says about a fault, fitted to a window, with columns as an editor counts them, names of files, and advice."""
 import re
-from typing import Any, Iterable, List, NamedTuple, Optional, Sequence, Tuple
+from typing import Any, Dict, Iterable, List, NamedTuple, Optional, Sequence, Tuple
 
 from .language import ITEMS
 from .layout import named, short
@@ -143,18 +143,29 @@ def lacking_end(found: Iterable[Parenthesis]) -> str:
 
 
 def lacking_begin(found: Iterable[Parenthesis], lines: Sequence[bytes]) -> str:
-    """Returns the line that lacks its (: the one above the first ) which begins a line as far right, and closes a ( of a line farther left."""
+    """Returns the line that lacks its (: the one above the first ) which begins a line as far right, and closes a ( of a line farther left. If that
+    line has a ( that was closed inside of a later one, the ) there is too many."""
     opened: List[Parenthesis] = []
+    ends: Dict[int, Parenthesis] = {}
     for one in found:
         if one.text == "(":
             opened.append(one)
         elif opened:
             begin = opened.pop()
-            rows = range(one.row - 1, begin.row, -1) if one.is_first and one.indent > begin.indent else ()
-            row = next((row for row in rows if lines[row - 1].strip() and len(lines[row - 1]) - len(lines[row - 1].lstrip()) <= one.indent), 0)
-            if row and len(lines[row - 1]) - len(lines[row - 1].lstrip()) == one.indent:
+            row = line_above(one, lines, begin.row) if one.is_first and one.indent > begin.indent else 0
+            if row in ends and not ends[row].is_first:
+                return ". By the layout, the ) of %d:%d is too many" % ends[row][1:3]
+            if row and row not in ends:
                 return ". By the layout, line %d lacks the ( that the ) of %d:%d closes" % (row, one.row, one.column)
+            ends.update({begin.row: one} if begin.row < one.row else {})
     return ""
+
+
+def line_above(one: Parenthesis, lines: Sequence[bytes], begin: int) -> int:
+    """Returns the number of the line after this one above a parenthesis that begins as far right, if none between them is farther left; or 0."""
+    indents = {row: len(lines[row - 1]) - len(lines[row - 1].lstrip()) for row in range(begin + 1, one.row) if lines[row - 1].strip()}
+    row = next((row for row in reversed(indents) if indents[row] <= one.indent), 0)
+    return row if row and indents[row] == one.indent else 0
 
 
 def with_file(line: str, script: str) -> str:

@@ -102,7 +102,8 @@ def misused(script: Script) -> Iterable[Lint]:
     texts, kinds = [token.text for token in tokens] + [""] * 7, [token.kind for token in tokens] + [""] * 7
     values = {(texts[i + 1], texts[i + 2]) for i, text in enumerate(texts) if text == "$"}
     for i, token in enumerate(tokens):
-        after, name = texts[i + 2 + (kinds[i + 2] == "name")], short(texts[i + 1])
+        then = next((j for j in range(i + 2, len(tokens)) if texts[j] != ")"), len(tokens))
+        after, name = texts[then + (kinds[then] == "name")], short(texts[i + 1])
         if texts[i : i + 2] == ["[", "]"] and after in EMPTY:
             yield token.start, "the slice is empty here: " + EMPTY[after]
         elif texts[i : i + 3] == ["for", "[", "substring"]:
@@ -314,7 +315,7 @@ def strange_strings(script: Script, outcomes: Sequence[Outcome]) -> Iterable[Lin
     for start, string in sorted(strings.items()) if outcomes else []:
         strange = [letter(c, string) for c in sorted(set(string) - there)]
         # (of those in another form of Unicode a warning speaks once)
-        if strange and len(composed(string)) == len(string):
+        if strange and len(composed(string)) >= len(string):
             where = "the grouping" if start in members else "'%s'" % short(string)
             yield start, "%s has %s, which no word has and no command puts in" % (where, in_words(strange, "and", 6))
         elif not strange and start not in entries and string not in whole:
@@ -334,7 +335,7 @@ def letter(c: str, string: str) -> str:
     if c.isascii() and c.isalpha() and any(other.isalpha() and not unicodedata.name(other, "LATIN").startswith("LATIN") for other in string):
         return "%s (U+%04X, a Latin letter)" % (c, ord(c))
     number = {" ": "a blank", "\t": "a tab"}.get(c, "U+%04X" % ord(c))
-    return c if "!" <= c <= "~" else "%s (%s)" % (c, number) if unicodedata.category(c)[0] in "LNPS" else number
+    return '","' if c == "," else c if "!" <= c <= "~" else "%s (%s)" % (c, number) if unicodedata.category(c)[0] in "LNPS" else number
 
 
 def values_of(tokens: Sequence[Token]) -> Iterable[Tuple[Token, str, bool]]:
@@ -404,10 +405,13 @@ def strange_words(script: Script, outcomes: Sequence[Outcome], path: str) -> Lis
     large = [row.word for row in outcomes if row.word != row.word.lower()] if strings and all(string == string.lower() for string in strings) else []
     signed = [row.word for row in outcomes if not row.word.isalpha() and any(unicodedata.category(c)[0] in "PS" for c in set(row.word) - signs)]
     empty = [row.word for row in outcomes if (row.kind, row.stem) == ("stem", "")]
+    there = {row.word for row in outcomes}
+    twice = [word for word in there if not word.isascii() and composed(word) in there and word != composed(word) and len(composed(word)) >= len(word)]
     many = "{:,} of {:,} words {} {}, as '{}'{}"
     return [many.format(len(found), len(outcomes), "has" if len(found) == 1 else "have", what, short(found[0]), then) for found, what, then in (
         (large, "capitals", ", and no string of an among has one. For small letters: LC_ALL=C.UTF-8 sed 's/.*/\\L&/' %s > NEW" % path),
         (signed if 2 * len(signed) > len(outcomes) else [], "a sign that is no letter", ", and no literal has it"), (empty, "the empty stem", ""),
+        (sorted(twice), "another form among the words", ": as NFC both are one word"),
     ) if found]
 
 

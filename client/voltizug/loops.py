@@ -73,8 +73,10 @@ def turning(word: str, events: Sequence[Any], bench: Bench) -> str:
         limit = int(bench.program.now.limit)
         return "The run of {} ends in {}, which goes round, or it needs more than {:,} steps.{}".format(word, name, limit, may_be)
     does = ": it {} again and again, {:,} times and more".format(in_words(turn.does, "and", 3), turn.count) if turn.does else ""
-    what = "%s%s in " % (in_words(spots, "or"), "," * bool(places.note)) if spots else ""
-    return "In the run of %s %s%s goes round%s." % (word, what, name, does)
+    # (the place of a typed one has the name)
+    where = "" if spots and places.is_typed(name) else name
+    what = "%s%s%s" % (in_words(spots, "or"), "," * bool(places.note and where), " in " * bool(where)) if spots else ""
+    return "In the run of %s %s%s goes round%s." % (word, what, where, does)
 
 
 def ending(word: str, bench: Bench) -> str:

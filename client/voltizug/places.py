@@ -82,7 +82,7 @@ class Places:
         comment = next((token for token in self.tokens if token.kind == "comment" and token.start > end), None)
         if comment and not self.text[end : comment.start].strip(b" \t"):
             end = comment.end
-        return readable(before * (not before.strip()) + self.text[start:end]).split("\n")
+        return readable(before * (not before.strip()) + self.text[start:end]).rstrip("\r").split("\n")
 
     def part(self, name: str) -> List[Token]:
         """Returns the tokens of a definition, without comments."""

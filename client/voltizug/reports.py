@@ -11,9 +11,14 @@ from .places import Places
 FIRST, LAST, MOST_TESTS = 40, 19, 200
 # Deeper calls are not indented more than such.
 DEEPEST = 8
+# The figures of `stats`, of one and of several.
+STATS = {
+    "words": ("word", "words"), "refused": ("refused", "refused"), "classes": ("class", "classes"), "alone": ("class of one word", "classes of one word"),
+    "largest": ("word in the largest class", "words in the largest class"), "unchanged": ("word that is its own stem", "words that are their own stem"),
+    "runs": ("run so far", "runs so far"),
+}
 FIGURES = {
-    "refused": "refused", "alone": "classes of one word", "largest": "words in the largest class",
-    "unchanged": "words that are their own stem", "runs": "runs so far", "under": "understemmed", "over": "overstemmed",
+    "under": "understemmed", "over": "overstemmed",
     "done": "made", "undone": "taken back",
 }
 # A line in two or three parts: what it is about, what is said, and a place.
@@ -189,7 +194,7 @@ def returned(calls: List[Call], is_true: bool, places: Places) -> List[Line]:
 # By command, the layout of its rows.
 REPORTS: Dict[str, Callable[[Sequence[str]], List[str]]] = {
     "stems": stems, "find": stems, "uses": stems, "classes": classes, "class": class_of, "stem": class_of, "largest": largest, "families": families,
-    "stats": lambda lines: ["{:>9,} {}".format(int(row.count), FIGURES.get(row.kind, row.kind)) for row in rows.read("stats", lines)],
+    "stats": lambda lines: ["{:>9,} {}".format(int(row.count), STATS[row.kind][row.count != "1"]) for row in rows.read("stats", lines)],
     "history": lambda lines: ["  %2d  %-10s  %s" % (i, FIGURES[row.kind], named(step_of(row))) for i, row in enumerate(rows.read("history", lines), 1)],
     # (the parts of one kind on a line)
     "trace": lambda lines: [

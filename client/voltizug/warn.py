@@ -26,7 +26,11 @@ LONG_LINE: Kind = (is_overlong, "more than 65,536 bytes", ". run, check, filter 
 LONG_WORD: Kind = (is_overlong, "more than 65,536 bytes, which no line may have", ". Write one word on each line")
 OF_WORDS: Sequence[Kind] = (
     (
-        re.compile(r"^[^\S\n]|[^\S\n]$", re.M).search, "a blank at an end of the word, which belongs to it",
+        re.compile("\u00a0").search, "a no-break space (U+00A0), which belongs to the word",
+        ". To put blanks in its place: sed -i 's/\\xC2\\xA0/ /g' {file}",
+    ),
+    (
+        re.compile(r"^[^\S\n\u00a0]|[^\S\n\u00a0]$", re.M).search, "a blank at an end of the word, which belongs to it",
         ". To take them away: sed -i 's/^[ \\t]*//; s/[ \\t\\r]*$//' {file}",
     ),
     (re.compile(r"^\.$", re.M).search, "a single point. In a session it ends the list; here it is a word", ""),

@@ -71,6 +71,7 @@ NOTES: Dict[str, str] = {
     "same": "{script} has the current script.",
     "fault gone": "The fault is gone: {script} has the current script again.",
     "undone in file": "{script} still has what undo took back: Enter reads it again.",
+    "refused in file": "{script} has a text that was refused, or whose runs were broken off.",
     "the same script": "The script has this already, so undo does not count it.",
     "the same tokens": "The script has the same tokens, so undo does not count this. Its blanks and comments are as you typed them now.",
     "limit": "Each run may use {limit} now.",

@@ -23,7 +23,7 @@ from .ink import shown_text
 
 HERE = os.path.dirname(os.path.realpath(__file__))
 VERSION = os.path.join(HERE, "..", "..", "..", "VERSION")
-FIGURES = {"words": "words", "classes": "classes", **{key: reports.FIGURES[key] for key in ("alone", "largest", "unchanged")}, "refused": "words refused"}
+FIGURES = {"words": "words", "classes": "classes", **{key: reports.STATS[key][1] for key in ("alone", "largest", "unchanged")}, "refused": "words refused"}
 KINDS = {
     "changed": ("word has another stem", "words have another stem"), "split": ("class split", "classes split"),
     "merged": ("class merged", "classes merged"), "renamed": ("class renamed", "classes renamed"),

@@ -255,7 +255,8 @@ def serve(given: argparse.Namespace, bench: Bench) -> int:
     try:
         server.serve_forever(poll_interval=0.5)
     except KeyboardInterrupt:
-        pass
+        # (the terminal has written ^C)
+        print(file=sys.stderr)
     finally:
         live.stopping.set()
         server.server_close()

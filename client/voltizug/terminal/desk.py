@@ -288,7 +288,8 @@ class Desk:
     def families_line(self, edit: Edit) -> str:
         """Returns the figures of the families after an edit, or why there are none."""
         path, line = self.bench.families, "families " + self.bench.families
-        if path and not (kept.read_file(path) or b"?").strip():
+        text = kept.read_file(path) if path else None
+        if text is not None and not text.strip():
             return "families: %s has no words" % short(path)
         if edit.pairs or not path:
             return layout.families_line(edit.pairs)

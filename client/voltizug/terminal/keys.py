@@ -5,7 +5,6 @@ import contextlib
 import ctypes
 import errno
 import os
-import re
 import readline
 import select
 import signal
@@ -17,7 +16,6 @@ from typing import Any, Callable, Dict, List, Optional, Sequence, Tuple
 HISTORY, INTERRUPT, PAUSE = 2000, b"\x03", 0.1
 # How often files are looked at, and how soon again after a change (a file may still be being written); how often signals are if no file is.
 PERIOD, SOON, REST = 0.03, 0.005, 0.5
-POINT = re.compile(rb"[\r\n][ \t]*\.[ \t]*[\r\n]")
 # Of readline's state: its callbacks are installed.
 CALLBACK = 0x80000
 
@@ -200,13 +198,16 @@ class Editor:
 
     def drop_pasted(self) -> int:
         """Drops the lines that came with a refused one; returns how many. If the terminal tells no paste, all up to a single point is dropped."""
-        rest = b""
-        while not POINT.search(b"\n" + rest) and select.select([0], [], [], PAUSE)[0]:
-            read = os.read(0, 1)
-            if not read:
+        count, line, is_ended = len(self.pending), b"", False
+        while not is_ended and select.select([0], [], [], PAUSE)[0]:
+            key = os.read(0, 1)
+            if not key:
                 break
-            rest += read
-        count = len(self.pending) + len(re.findall(rb"[\r\n]", rest))
+            # (of a line no more is needed than shows whether it is a point)
+            is_end, line = key in b"\r\n", (line + key)[-100:]
+            count += is_end
+            is_ended = is_end and line.strip() == b"."
+            line = b"" if is_end else line
         self.pending.clear()
         return count
 

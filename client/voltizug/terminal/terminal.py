@@ -68,7 +68,8 @@ class Terminal(Desk):
             self.ask(line)
         elif line in ("", "reload", "undo", "redo") or command in ("limit", "replace") and argument:
             # (Enter is for what was saved)
-            drops = not line and self.bench.script not in self.bench.saved() and self.bench.is_unsaved(self.bench.program.now.text)
+            is_same = self.bench.script not in self.bench.saved() and self.bench.refused_text is None and os.path.exists(self.bench.script)
+            drops = not line and is_same and self.bench.is_unsaved(self.bench.program.now.text)
             if self.is_sure(line or "Enter", "%s has not changed: Enter again drops what you typed." % short(self.bench.script) if drops else ""):
                 self.edit([line or "reload"])
         elif command in BLOCKS or line in OPEN_BLOCKS:
@@ -169,16 +170,19 @@ class Terminal(Desk):
 
     def reply_families(self, path: str, lines: Sequence[str]) -> List[str]:
         mark = ["%s begins with a byte order mark, which is part of its first word." % short(path)] * (kept.read_file(path) or b"").startswith(BOM)
-        text, there = (kept.read_file(path) or b"").decode("utf-8", "surrogateescape"), self.bench.by_word()
+        text = (kept.read_file(path) or b"").decode("utf-8", "surrogateescape")
         if not text.strip() or re.search(r"\bexternals\s*\(", text):
             return ["%s %s: a family is a line of words that belong together." % (short(path), "looks like a script" if text.strip() else "has no words")]
-        strange = [word for word in re.split("[ \t\r\n,]+", text) if word and word not in there][:1]
-        first = ["The first word that is not in the vocabulary is %s." % words.in_quotes(word) for word in strange]
-        families = Counter(word for line in text.splitlines() for word in dict.fromkeys(re.split("[ \t,]+", line)) if word)
-        first += ["%s is in more than one family, and counts in the first one." % words.in_quotes(word) for word, count in families.items() if count > 1][:1]
         others = self.bench.families if self.bench.families not in ("", path) else ""
         then = ["After edits the figures are of %s." % short(others)] * bool(others)
-        return mark + warn.on_lines(layout.named(path), path, text, warn.DECOMPOSED) + first + reports.families(lines) + then
+        return mark + warn.on_lines(layout.named(path), path, text, warn.DECOMPOSED) + self.of_families(text) + reports.families(lines) + then
+
+    def of_families(self, text: str) -> List[str]:
+        """Returns the first word of families that is not in the vocabulary, and the first one that is in two of them."""
+        there, families = self.bench.by_word(), [dict.fromkeys(filter(None, re.split("[ \t\r,]+", line))) for line in text.split("\n")]
+        found = Counter(word for family in families for word in family)
+        first = ["The first word that is not in the vocabulary is %s." % words.in_quotes(word) for word in found if word not in there][:1]
+        return first + ["%s is in more than one family, and counts in the first one." % words.in_quotes(word) for word, count in found.items() if count > 1][:1]
 
     def reply_why(self, word: str, lines: Sequence[str]) -> List[str]:
         figures, events, _ = self.run_of(word, lines)
@@ -188,16 +192,19 @@ class Terminal(Desk):
         return shown + ["  " + line for line in (turn, meaning, words.misspelt(word, self.bench)) if line]
 
     def reply_events(self, word: str, lines: Sequence[str]) -> List[str]:
-        return reports.events(word, rows.read("events", lines), self.bench.places())
+        return reports.events(word, rows.read("events", lines), self.bench.places()) + self.absent(word)
 
-    def reply_integers(self, _: str, lines: Sequence[str]) -> List[str]:
+    def reply_integers(self, word: str, lines: Sequence[str]) -> List[str]:
         figures = rows.read("integers", lines)
-        return ["  " + reports.values(figures, int(figures[0].count) > int(self.bench.program.now.limit))]
+        return ["  " + reports.values(figures, int(figures[0].count) > int(self.bench.program.now.limit))] + self.absent(word)
 
     def reply_tests(self, word: str, lines: Sequence[str]) -> List[str]:
         _, events, is_known = self.run_of(word, lines)
         unknown = ["The tests of this run cannot be shown: it is too long, or near a limit."]
-        return reports.tests(events, self.bench.places()) if is_known else unknown
+        return (reports.tests(events, self.bench.places()) if is_known else unknown) + self.absent(word)
+
+    def absent(self, word: str) -> List[str]:
+        return ["  " + line for line in [words.misspelt(word, self.bench)] if line]
 
     def run_of(self, word: str, lines: Sequence[str]) -> Tuple[List[Any], List[Any], bool]:
         """Returns the figures of the run of a word; its events, from their lines, with its tests; and whether these are known."""
@@ -212,7 +219,7 @@ class Terminal(Desk):
     def do_help(self, name: str) -> None:
         known = COMMANDS.get(name.partition(" ")[0])
         said = "{0.usage}: {0.does}. {0.more}".format(known).rstrip() if known else words.no_command(name)
-        self.screen.say(*([said] if name else commands.overview()))
+        self.screen.write([said] if name else commands.overview(), is_report=not name)
 
     def do_limit(self, _: str) -> None:
         self.screen.say("Each run may use {:,} steps. limit N sets another number.".format(int(self.bench.program.now.limit)))
@@ -279,7 +286,8 @@ class Terminal(Desk):
         elif self.is_done(reply, line) and command == "approve":
             now = kept.read_lines(path)
             others = " %s other than before." % counted(sum(map(ne, stems, now)), "stem is", "stems are")
-            self.screen.say("The stems are in %s." % name + others * (0 < len(stems) == len(now)), self.unkept_words(), self.unlike_words())
+            typed = "The edits that you typed are in no file: save FILE keeps them." * self.bench.is_unsaved(self.bench.program.now.text)
+            self.screen.say("The stems are in %s." % name + others * (0 < len(stems) == len(now)), self.unkept_words(), self.unlike_words(), typed)
         elif reply.is_done:
             lost = comments - self.comments(path)
             # (of the parts that were typed, or of a change of SCRIPT that undo took back)
@@ -376,7 +384,7 @@ class Terminal(Desk):
         elif block[0] == "families":
             reply = self.bench.ask(*block, ".")
             if self.is_done(reply, "families"):
-                self.screen.write(reports.families(reply.lines), is_report=True)
+                self.screen.write(self.of_families("\n".join(block[1:])) + reports.families(reply.lines), is_report=True)
         elif not self.edit([*block, "."]):
             self.editor.remember(*block, ".")
 
