@@ -371,8 +371,10 @@ class Bench(Stage):
         if former is not None:
             # (the program overwrites only what it has read: so that is there again first)
             write_file(self.script, former)
+        made = state_of(self.script) if former is not None else None
         reply = self.ask("%s %s" % (command, self.script if is_own else path))
-        if former is not None and not reply.is_done and read_file(self.script) == former:
+        if made is not None and not reply.is_done and state_of(self.script) == made:
+            # (nobody else wrote it, and it was not there before)
             os.remove(self.script)
         if reply.is_done:
             self.written[os.path.realpath(path)] = state_of(path)
