@@ -17,7 +17,7 @@ from .screen import Screen
 # After so many lines, one after another, that are no command and came faster than one types, the rest is dropped.
 NONSENSE = 5
 # What becomes another one in a warning if something else is edited: its place, and figures.
-VARYING = re.compile(r"\A.+?:\d+:\d+: |\Anot in .+?: line \d+ of [\w ]+: |[\d,]+ of [\d,]+ words")
+VARYING = re.compile(r"\A.+?:\d+:\d+: |\Anot in .+?: line \d+ of \w+: |[\d,]+ of [\d,]+ words")
 # A list of words: some lines, each of which has one, and no signs that a script begins with.
 LIST = re.compile(rb"(?:\s*[^\s()/]+[^\S\n]*\n){3,}\s*\Z")
 # Faults of the script have smaller numbers; the status after Ctrl-C at the start.
