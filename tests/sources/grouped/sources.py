@@ -58,7 +58,9 @@ def closing(text: str, at: int) -> int:
 
 
 def owner_of(head: str) -> str:
-    """Returns how a check names the methods of an `impl`: by the type, or by the type and the trait."""
+    """Returns how a check names the methods of an `impl`: by the type, or by the type and the trait, and of `From` by what that is from, too."""
+    origin = re.search(r"\bFrom<([\w:]+)", head)
+    suffix = "".join(it[:1].upper() + it[1:] for it in origin[1].split("::")) if origin else ""
     head, depth, plain = re.sub(r"\bwhere\b.*", "", head, flags=re.S), 0, ""
     for letter in head:
         depth += (letter == "<") - (letter == ">")
@@ -67,7 +69,7 @@ def owner_of(head: str) -> str:
     words = [it for it in words if it not in ("impl", "dyn", "mut", "unsafe", "pub")]
     if "for" in words:
         at = words.index("for")
-        return words[at + 1] + words[at - 1] if 0 < at < len(words) - 1 else ""
+        return words[at + 1] + words[at - 1] + suffix if 0 < at < len(words) - 1 else ""
     return words[0] if words else ""
 
 

@@ -158,7 +158,8 @@ class Places(unittest.TestCase):
     def test_names_of_modules_and_owners(self) -> None:
         self.assertEqual([module_of(it) for it in ("src/lib.rt", "src/a.rt", "src/a/mod.rt", "src/a/b.rt")], ["", "::a", "::a", "::a::b"])
         self.assertEqual(owner_of("impl<'a, T: Tables> Runner<'a, T> "), "Runner")
-        self.assertEqual(owner_of("impl<T: Drop> From<AllocFailed<T>> for LoadFault "), "LoadFaultFrom")
+        self.assertEqual(owner_of("impl<T: Drop> From<AllocFailed<T>> for LoadFault "), "LoadFaultFromAllocFailed")
+        self.assertEqual(owner_of("impl From<sbl_script::EditFault> for EditFault "), "EditFaultFromSbl_scriptEditFault")
 
     def test_functions_without_ensures(self) -> None:
         text = (
