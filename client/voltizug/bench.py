@@ -366,12 +366,11 @@ class Bench(Stage):
         ) if is_so), "")
 
     def write(self, command: str, path: str) -> Reply:
-        is_own = self.is_script(path)
-        former = (self.file_text or b"" if self.refused_text is None else self.refused_text) if is_own and not os.path.exists(path) else None
-        if former is not None:
+        is_own, made = self.is_script(path), None  # type: bool, FileState
+        if is_own and not os.path.exists(path):
             # (the program overwrites only what it has read: so that is there again first)
-            write_file(self.script, former)
-        made = state_of(self.script) if former is not None else None
+            write_file(self.script, self.file_text or b"" if self.refused_text is None else self.refused_text)
+            made = state_of(self.script)
         reply = self.ask("%s %s" % (command, self.script if is_own else path))
         if made is not None and not reply.is_done and state_of(self.script) == made:
             # (nobody else wrote it, and it was not there before)

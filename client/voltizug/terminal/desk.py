@@ -113,13 +113,17 @@ class Desk:
 
     def first_families(self) -> str:
         """Has the families of the command line compared from now on. Returns their figures, or why there are none."""
-        path, line = self.options.families, "families " + self.options.families
-        refusal = self.bench.ask(line).refusal() if path else None
-        if refusal:
-            return "families: " + words.refused(refusal[0], line, self.bench)
-        if path and not self.bench.families:
-            return "families: no line of %s has two words of the vocabulary" % short(path)
-        return layout.families_line(self.bench.pairs * 2)
+        path = self.options.families
+        if not path:
+            return ""
+        figures = self.unread_families(path) or layout.families_line(self.bench.pairs * 2)
+        return figures or "families: no line of %s has two words of the vocabulary" % short(path)
+
+    def unread_families(self, path: str) -> str:
+        """Has the families of a file compared. Returns why that is refused; nothing if it is not."""
+        line = "families " + path
+        refusal = self.bench.ask(line).refusal()
+        return "families: " + words.refused(refusal[0], line, self.bench) if refusal else ""
 
     def misplaced(self) -> str:
         """Returns what is said if the second file looks like a script, and the first one does not, or the first one like a list of words."""
@@ -287,14 +291,11 @@ class Desk:
 
     def families_line(self, edit: Edit) -> str:
         """Returns the figures of the families after an edit, or why there are none."""
-        path, line = self.bench.families, "families " + self.bench.families
+        path = self.bench.families
         text = kept.read_file(path) if path else None
         if text is not None and not text.strip():
             return "families: %s has no words" % short(path)
-        if edit.pairs or not path:
-            return layout.families_line(edit.pairs)
-        refusal = self.bench.ask(line).refusal()
-        return "families: " + words.refused(refusal[0], line, self.bench) if refusal else ""
+        return layout.families_line(edit.pairs) if edit.pairs or not path else self.unread_families(path)
 
     def more_on(self, edit: Edit, lines: Sequence[str], own: Sequence[Any]) -> List[str]:
         """Returns what is said of an accepted edit beside its figures, for which the program is asked more."""

@@ -74,11 +74,13 @@ class Terminal(Desk):
                 self.edit([line or "reload"])
         elif command in BLOCKS or line in OPEN_BLOCKS:
             self.read_block(line)
-        elif (definition := DEFINITION.match(line)) and not definition[2] and (line[definition.end() :][:1] == "(" or self.bench.places().kind(definition[1]) == "routine"):
-            self.screen.say("After the name of a routine comes as: define %s as .. Nothing was done." % short(definition[1]))
-            self.drop_pasted()
-        elif definition:
-            self.read_block("%s %s" % ("routine" if definition[2] else "grouping", definition[1]), line)
+        elif definition := DEFINITION.match(line):
+            name, has_as, is_body = definition[1], definition[2], line[definition.end() :].startswith("(")
+            if not has_as and (is_body or self.bench.places().kind(name) == "routine"):
+                self.screen.say("After the name of a routine comes as: define %s as .. Nothing was done." % short(name))
+                self.drop_pasted()
+            else:
+                self.read_block("%s %s" % ("routine" if has_as else "grouping", name), line)
         elif command in ("save", "approve"):
             self.write(command, argument.strip())
         elif hasattr(self, "do_" + command):
