@@ -21,13 +21,13 @@ use Rattle.sbl_semantics.specs.State.{State, Signals, after, then_on, saved_curs
 use Rattle.sbl_semantics.specs.declared.cursor.SavedCursor.{SavedCursor}
 use Rattle.sbl_ast.specs.declared.mode.Mode.{Mode}
 use Rattle.sbl_code.specs.declared.instruction.Instruction.{Instruction}
-use Rattle.sbl_code.specs.declared.instruction.Instruction.TheVariants.{End, Pay, Character, Literal, Grouping, LeftBracket, RightBracket, Boolean, Next, Act, Save, Restore, Nested, Repeat, Loop, AtLeast, Seek, SeekGrouping, Backwards, SetLimit, Call, Search, Choose}
+use Rattle.sbl_code.specs.declared.instruction.Instruction.TheVariants.{End, Pay, Character, Literal, Grouping, LeftBracket, RightBracket, Boolean, Next, Act, Save, Restore, Nested, Repeat, Loop, AtLeast, Seek, SeekGrouping, Backwards, SetLimit, Call, DoCall, Search, Choose}
 use Rattle.sbl_code.specs.declared.instruction.Instruction.TheFolds.{fold_out-Instruction}
 use Rattle.sbl_code.specs.declared.instruction.Instruction.TheViews.{the_lemmas}
 use Rattle.sbl_code.specs.Slots.{no_cursor}
 use Rattle.sbl_code.specs.declared.instruction.GroupCode.{GroupCode}
 use Rattle.sbl_code.specs.declared.instruction.SearchSite.{SearchSite}
-use Rattle.sbl_code.specs.Flow.{Flow, flow, back_if, group_flow, alone, chosen_flow, turns_of, loop_of, at_least_of, seek_of, backwards_of, limited_of}
+use Rattle.sbl_code.specs.Flow.{Flow, flow, back_if, group_flow, alone, chosen_flow, do_of, turns_of, loop_of, at_least_of, seek_of, backwards_of, limited_of}
 
 abbrev I : Type 0
 I = Rc Instruction Global
@@ -98,6 +98,9 @@ module _ (p : programs.Program) (levels : ℕ) (tables : ℕ → Listing) (m : M
 
   pub flow_call : (cost routine : ℕ) (next fail : I) → F (Call cost routine next fail) m ys s ≡ then_on (pays cost s) (λ u. after (pay_first (calls p levels routine) m u) (F next.value m ys) (F fail.value m ys))
   flow_call cost routine next fail = first_of (search (rules, the_lemmas), search (rules, the_lemmas, fold_out-Instruction))
+
+  pub flow_do_call : (cost routine : ℕ) (next : I) → F (DoCall cost routine next) m ys s ≡ then_on (pays cost s) (λ u. after (pay_first (do_of (calls p levels routine)) m u) (F next.value m ys) (Signals false))
+  flow_do_call cost routine next = first_of (search (rules, the_lemmas), search (rules, the_lemmas, fold_out-Instruction))
 
   pub flow_search : (cost among : ℕ) (site : Box SearchSite Global) (next fail : I) → F (Search cost among site next fail) m ys s ≡ then_on (pays cost s) (λ u. after (pay_first (search_all (calls p levels) among site.value.entries.items (tables site.value.table)) m u) (F next.value m ys) (F fail.value m ys))
   flow_search cost among site next fail = first_of (search (rules, the_lemmas), search (rules, the_lemmas, fold_out-Instruction))

@@ -22,7 +22,7 @@ use Rattle.sbl_code.specs.declared.instruction.GroupCode.{GroupCode, out-GroupCo
 use Rattle.sbl_code.specs.declared.assembler.Exits.{Exits}
 use Rattle.sbl_code.specs.declared.assembler.Place.{Place}
 use Rattle.sbl_code.specs.Slots.{no_cursor, no_cursors}
-use Rattle.sbl_code.specs.Flow.{Flow, flow, group_flow, alone, chosen_flow, fail_of, turns_of, wrapped_of}
+use Rattle.sbl_code.specs.Flow.{Flow, flow, group_flow, alone, chosen_flow, do_of, fail_of, turns_of, wrapped_of}
 use Rattle.sbl_code.specs.Performs.{Agree, GoesOn, Leaves, Meaning, Performs, PerformsAt, Ends, Restores, Saves, Runs, IsPlaced, IsPlace, ArePerformed}
 use Rattle.sbl_code.proofs.Endings.{after_after, after_same, as_it_is, Passes, passes_then, pay_passes, pays_pass, back_passes, own_step, steps_more}
 
@@ -254,6 +254,34 @@ turns_pass (suc n) c m s u v w =
 -- `repeat` does not signal f
 pub repeating : (c : Doing) (m : Mode) (s : State) → Passes (pay_first (turns_of c) m s)
 repeating c m s = passes_then (pay s.steps s) (turns_of c m) (pay_passes s.steps s) (λ u. turns_pass (suc u.steps) c m u)
+
+do_of_passes : (c : Doing) (m : Mode) (s : State) → Passes (do_of c m s)
+do_of_passes c m s u v w =
+    let f = put_back m (saved_cursor s) in
+    after_after (c m s) f f u v
+    ∙ after_same (c m s) (λ t. after (f t) u v) (λ t. after (f t) u v) (λ t. after (f t) u w) (λ t. after (f t) u w) (λ t. back_passes m (saved_cursor s) t u v w) (λ t. back_passes m (saved_cursor s) t u v w)
+    ∙ sym (after_after (c m s) f f u w)
+
+-- `do` does not signal f
+pub do_passes : (c : Doing) (m : Mode) (s : State) → Passes (pay_first (do_of c) m s)
+do_passes c m s = passes_then (pay s.steps s) (do_of c m) (pay_passes s.steps s) (λ u. do_of_passes c m u)
+
+-- a step moves no cursor, so `do` may save it before or after the step of its command
+step_in_do : (n : ℕ) (c : Doing) (m : Mode) (s : State) → then_on (pay n s) (do_of c m) ≡ after (then_on (pay n s) (c m)) (put_back m (saved_cursor s)) (put_back m (saved_cursor s))
+step_in_do zero c m s = refl
+step_in_do (suc n) c m s = refl
+
+-- `do` of a command, by what the command does after its own step
+pub do_arm :
+    (tables : ℕ → Listing) (d : Meaning) (node x : Node) (cost n : ℕ) (next fail entry : Instruction) → node ≡ x → Does tables d x →
+    Performs tables (λ p levels. pay_first (pay_first (do_of (d p levels)))) cost n next fail entry →
+    Performs tables (λ p levels. pay_first (do_of (runs p levels (view_node tables node)))) cost n next fail entry
+do_arm tables d node x cost n next fail entry e q =
+    let run = λ (p : programs.Program) (levels : ℕ). runs p levels (view_node tables node) in
+    same_meaning tables (λ p levels. pay_first (pay_first (do_of (d p levels)))) (λ p levels. pay_first (do_of (run p levels))) cost n next fail entry
+    (λ p levels m s.
+    after_same (pay s.steps s) (pay_first (do_of (d p levels)) m) (Signals false) (do_of (run p levels) m) (Signals false)
+    (λ u. step_in_do u.steps (d p levels) m u ∙ ap (λ r. after r (put_back m (saved_cursor u)) (put_back m (saved_cursor u))) (arm_means tables d node x e q p levels m u)) (λ u. refl))
 
 -- ---- where a command saves the cursor
 

@@ -145,6 +145,8 @@ flow_step p levels tables (code.SetLimit cost first second next fail) m slots s 
     then_on (pays cost s) (λ u. after (pay_first (limited_of (alone first.value) (alone second.value)) m u) (next.value m slots) (fail.value m slots))
 flow_step p levels tables (code.Call cost routine next fail) m slots s =
     then_on (pays cost s) (λ u. after (pay_first (calls p levels routine) m u) (next.value m slots) (fail.value m slots))
+flow_step p levels tables (code.DoCall cost routine next) m slots s =
+    then_on (pays cost s) (λ u. after (pay_first (do_of (calls p levels routine)) m u) (next.value m slots) (Signals false))
 flow_step p levels tables (code.Search cost among site next fail) m slots s =
     then_on (pays cost s) (λ u. after (pay_first (search_all (calls p levels) among site.value.entries.items (tables site.value.table)) m u)
     (next.value m slots) (fail.value m slots))

@@ -165,7 +165,7 @@ impl Assembler {
             Node::Not(inner) => self.wrap(inner, Way::Fail, Way::Back, cost, slot, exits),
             Node::Test(inner) => self.wrap(inner, Way::Back, Way::Fail, cost, slot, exits),
             Node::Try(inner) => self.wrap(inner, Way::Next, Way::Back, cost, slot, exits),
-            Node::Do(inner) => self.wrap(inner, Way::Back, Way::Back, cost, slot, exits),
+            Node::Do(inner) => self.do_command(inner, cost, slot, exits),
             Node::Fail(inner) => self.fail(inner, cost, slot, exits),
             Node::Repeat(inner) => self.repeat(inner, cost, exits),
             Node::Loop(count, inner) => self.iterate(inner, count, false, cost, exits),

@@ -153,6 +153,12 @@ pub enum Instruction {
         next: Rc<Instruction>,
         fail: Rc<Instruction>,
     },
+    /// `do` and the call of a routine.
+    DoCall {
+        cost: u32,
+        routine: usize,
+        next: Rc<Instruction>,
+    },
     /// The search of an among.
     Search {
         cost: u32,

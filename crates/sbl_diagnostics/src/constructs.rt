@@ -129,6 +129,9 @@ pub(crate) fn push_rows(
     if site.operator().is_some() {
         return Ok(false);
     }
+    if push_foreign(shown, site)? {
+        return Ok(true);
+    }
     if push_number(shown, site)? {
         return Ok(true);
     }
@@ -330,6 +333,12 @@ pub(crate) fn push_body(
 ) -> Result<bool, AllocError> {
     if push_foreign(shown, site)? {
         return Ok(true);
+    }
+    if site.faulty.part.is_some() && site.is_at(Word::Define) {
+        return push_advice(
+            shown,
+            "A block has one definition: give the next one a block of its own.",
+        );
     }
     if site.faulty.part.is_some() || site.operator().is_some() {
         return Ok(false);

@@ -23,6 +23,7 @@ fn foreign_word(name: &str) -> Option<&'static str> {
         }
         "begin" | "end" => Some("Snowball has no begin and end: commands are in parentheses."),
         "return" => Some("Snowball has no return: a routine ends with the last of its commands."),
+        "at" => Some("Write atlimit or atmark as one word."),
         _ => None,
     }
 }

@@ -69,7 +69,7 @@ fn whole_text(part: Part<'_>) -> &'static str {
         Part::Routine(_) => "The text of routine is one command: put several into parentheses.",
         Part::Among(_, _) => "The text of among is a whole among ( .. ), and nothing else.",
         Part::Grouping(_) => {
-            "The text of grouping is what follows the name in its definition, such as v + 'y'."
+            "The text of grouping is what follows the name in its definition, such as 'aeiou' + 'y'."
         }
     }
 }

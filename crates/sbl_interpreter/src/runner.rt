@@ -252,6 +252,17 @@ impl<'a, T: Tables> Runner<'a, T> {
                         fail
                     };
                 }
+                Instruction::DoCall {
+                    cost,
+                    routine,
+                    next,
+                } => {
+                    pay_all(*cost, state)?;
+                    let from = state.saved_cursor();
+                    self.run_call(*routine, state)?;
+                    state.put_back(self.mode, from)?;
+                    at = next;
+                }
                 Instruction::Call {
                     cost,
                     routine,

@@ -3,7 +3,7 @@
 ghost use Rattle.std.specs.Prelude.{◌≡◌, ℕ, true, false, IfOk};
 ghost use Rattle.sbl_code.specs.Performs.{PerformsChosen, PerformsWithExits, Ends, Restores, Saves, class_test};
 ghost use Rattle.sbl_program.specs.AmongStrings.{Listing};
-ghost use Rattle.sbl_code.specs.Flow.{flow, alone, seek_of};
+ghost use Rattle.sbl_code.specs.Flow.{flow, alone, do_of, seek_of};
 ghost use Rattle.sbl_program.specs.Run.{calls};
 ghost use Rattle.sbl_program.specs.Search.{search_all};
 ghost use Rattle.sbl_semantics.specs.Control.{pay_first};
@@ -77,6 +77,23 @@ impl Assembler {
         ensures { IfOk result (λ made. (t : ℕ → Listing) (n : ℕ) → PerformsWithExits t (λ p levels. pay_first (calls p levels routine)) cost n exits.now made.value) }
     {
         emit!(self, exits, Call { cost, routine })
+    }
+
+    // `do` and a call.
+    pub(super) fn do_call(
+        &mut self,
+        routine: usize,
+        cost: u32,
+        exits: &Exits,
+    ) -> Result<Rc<Instruction>, AllocError>
+        ensures { IfOk result (λ made. (t : ℕ → Listing) (n : ℕ) → PerformsWithExits t (λ p levels. pay_first (do_of (calls p levels routine))) cost n exits.now made.value) }
+    {
+        let next = exits.next.clone()?;
+        self.emit(Instruction::DoCall {
+            cost,
+            routine,
+            next,
+        })
     }
 
     // The search of an among.

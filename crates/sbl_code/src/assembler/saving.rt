@@ -93,6 +93,23 @@ impl Assembler {
         self.save_before(&place, entry, cost, exits)
     }
 
+    // `do C`. A call is one instruction.
+    #[cycle(command)]
+    pub(super) fn do_command(
+        &mut self,
+        inner: &Node,
+        cost: u32,
+        slot: usize,
+        exits: &Exits,
+    ) -> Result<Rc<Instruction>, AllocError>
+        ensures { IfOk result (λ made. (tables : ℕ → Listing) → PerformsWithExits tables (wrapped_node tables Way.Back Way.Back inner.now) cost slot exits.now made.value) }
+    {
+        match inner {
+            Node::Call(number) => self.do_call(*number, more(cost, 1)?, exits),
+            _ => self.wrap(inner, Way::Back, Way::Back, cost, slot, exits),
+        }
+    }
+
     // Where a row goes on after its first command.
     #[cycle(command)]
     pub(super) fn rest(

@@ -7,24 +7,24 @@ use Rattle.std.proofs.lemmas.Result.{IfOk-weaker}
 use Rattle.sbl_program.specs.Terms.{class_at}
 use Rattle.sbl_program.specs.Program as programs
 use Rattle.sbl_program.specs.ProgramOf.{view_action, view_number, view_node, view_nodes, view_next_command}
-use Rattle.sbl_program.specs.declared.node.Node.TheVariants.{Act, Sequence}
+use Rattle.sbl_program.specs.declared.node.Node.TheVariants.{Act, Sequence, Call}
 use Rattle.sbl_program.specs.Actions.{acts, test_grouping}
 use Rattle.sbl_program.specs.Rows.{pays}
-use Rattle.sbl_program.specs.Run.{runs, all_run}
+use Rattle.sbl_program.specs.Run.{runs, all_run, calls}
 use Rattle.sbl_program.proofs.Arms.{sequence_does, grouping_does, non_does}
 use Rattle.sbl_program.proofs.Turns.{turn_is}
 use Rattle.sbl_program.proofs.ChainRuns.{part_is}
 use Rattle.sbl_semantics.specs.Control.{pay_first}
 use Rattle.sbl_semantics.specs.Slices.{left_bracket}
 use Rattle.sbl_semantics.specs.State.{State, Doing, Signals, after, then_on}
-use Rattle.sbl_code.specs.Flow.{flow, alone, way_does, wrapped_of, fail_of, turns_of, loop_of, at_least_of, counted_of, seek_of, backwards_of, limited_of}
+use Rattle.sbl_code.specs.Flow.{flow, alone, way_does, wrapped_of, do_of, fail_of, turns_of, loop_of, at_least_of, counted_of, seek_of, backwards_of, limited_of}
 use Rattle.sbl_code.specs.Performs.{Performs, PerformsAt, IsRest, ArePerformed}
 use Rattle.sbl_code.proofs.Endings.{after_same}
 use Rattle.sbl_code.proofs.Instructions.{flow_left_bracket, flow_repeat, flow_loop, flow_at_least, flow_seek, flow_backwards, flow_set_limit}
 use Rattle.sbl_code.proofs.PerformingAt.{anywhere, first_step_at, arm_at, in_turn_at, bracket_at, bracket_turn, same_meaning_at}
-use Rattle.sbl_code.proofs.Performing.{emitted_at, made_of, same_meaning, first_step, one_step, in_turn, saving, by_itself, failing, repeating}
+use Rattle.sbl_code.proofs.Performing.{emitted_at, made_of, same_meaning, first_step, one_step, in_turn, saving, by_itself, failing, repeating, do_arm}
 use Rattle.sbl_code.proofs.Rests.{rest_or, rest_and, performed_more}
-use Rattle.sbl_code.proofs.ProgramViews.{act_does, view_joiner, view_command}
+use Rattle.sbl_code.proofs.ProgramViews.{act_does, call_does, view_joiner, view_command}
 use Rattle.sbl_code.proofs.assembler.Assembler.+command.Goals as goal
 use Rattle.sbl_code.proofs.assembler.Assembler.+command.Answers.AnyCommand as any_command
 
@@ -165,6 +165,17 @@ wrap-returns t c =
     saving tables run (way_does t') (way_does f') place.cost place.slot x.next.value x.fail.value c.in_ok-way.field-0.value c.in_ok-way-2.field-0.value c.in_ok-entry.entry.value entry c.in_ok-place.ensures.0 saves (c.in_ok-entry.ensures tables)
     (c.in_ok-way.ensures tables) (c.in_ok-way-2.ensures tables))))
     c.save_before.ensures
+
+pub do_command-returns-in_ok-more-in-Call : goal.do_command-returns-in_ok-more-in-Call
+do_command-returns-in_ok-more-in-Call t c =
+    let e = c.args.exits.now in
+    let n = c.in-Call.number in
+    let more = c.in_ok-more-in-Call in
+    IfOk-weaker c.do_call.result _ _
+    (λ made h. λ tables.
+    do_arm tables (λ p levels. calls p levels n) c.args.inner.now (Call n) c.args.cost c.args.slot e.next.value e.fail.value made.value c.in-Call.is (λ p levels m s. call_does tables p levels n m s)
+    (first_step tables (λ p levels. pay_first (do_of (calls p levels n))) c.args.cost more.field-0 c.args.slot e.next.value e.fail.value made.value more.ensures (h tables c.args.slot)))
+    c.do_call.ensures
 
 pub exits_before-returns-in-Or : goal.exits_before-returns-in-Or
 exits_before-returns-in-Or t c =

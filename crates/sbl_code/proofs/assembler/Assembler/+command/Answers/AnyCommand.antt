@@ -39,7 +39,7 @@ pub command-returns-in-Try : goal.command-returns-in-Try
 command-returns-in-Try t c = IfOk-weaker c.wrap-in-Try.result _ _ (λ made h. λ tables. arm tables (λ p levels. try_of (runs p levels (view_node tables c.deref-in-Try.result.now))) c.args.node.now (Try c.in-Try.inner) c.args.cost c.args.slot c.args.exits.now.next.value c.args.exits.now.fail.value made.value c.in-Try.is (λ p levels m s. try_does tables p levels c.in-Try.inner m s ∙ ap (λ y. try_of (runs p levels (view_node tables y)) m s) (sym c.deref-in-Try.ensures)) (h tables)) c.wrap-in-Try.ensures
 
 pub command-returns-in-Do : goal.command-returns-in-Do
-command-returns-in-Do t c = IfOk-weaker c.wrap-in-Do.result _ _ (λ made h. λ tables. arm tables (λ p levels. do_of (runs p levels (view_node tables c.deref-in-Do.result.now))) c.args.node.now (Do c.in-Do.inner) c.args.cost c.args.slot c.args.exits.now.next.value c.args.exits.now.fail.value made.value c.in-Do.is (λ p levels m s. do_does tables p levels c.in-Do.inner m s ∙ ap (λ y. do_of (runs p levels (view_node tables y)) m s) (sym c.deref-in-Do.ensures)) (h tables)) c.wrap-in-Do.ensures
+command-returns-in-Do t c = IfOk-weaker c.do_command.result _ _ (λ made h. λ tables. arm tables (λ p levels. do_of (runs p levels (view_node tables c.deref-in-Do.result.now))) c.args.node.now (Do c.in-Do.inner) c.args.cost c.args.slot c.args.exits.now.next.value c.args.exits.now.fail.value made.value c.in-Do.is (λ p levels m s. do_does tables p levels c.in-Do.inner m s ∙ ap (λ y. do_of (runs p levels (view_node tables y)) m s) (sym c.deref-in-Do.ensures)) (h tables)) c.do_command.ensures
 
 pub command-returns-in-Fail : goal.command-returns-in-Fail
 command-returns-in-Fail t c = IfOk-weaker c.fail.result _ _ (λ made h. λ tables. arm tables (λ p levels. fail_of (runs p levels (view_node tables c.deref-in-Fail.result.now))) c.args.node.now (Fail c.in-Fail.inner) c.args.cost c.args.slot c.args.exits.now.next.value c.args.exits.now.fail.value made.value c.in-Fail.is (λ p levels m s. fail_does tables p levels c.in-Fail.inner m s ∙ ap (λ y. fail_of (runs p levels (view_node tables y)) m s) (sym c.deref-in-Fail.ensures)) (h tables)) c.fail.ensures
