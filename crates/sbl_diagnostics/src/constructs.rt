@@ -334,12 +334,6 @@ pub(crate) fn push_body(
     if push_foreign(shown, site)? {
         return Ok(true);
     }
-    if site.faulty.part.is_some() && site.is_at(Word::Define) {
-        return push_advice(
-            shown,
-            "A block has one definition: give the next one a block of its own.",
-        );
-    }
     if site.faulty.part.is_some() || site.operator().is_some() {
         return Ok(false);
     }

@@ -63,8 +63,11 @@ impl<'a> Place<'a> {
     }
 }
 
-/// What the text of a block is.
-fn whole_text(part: Part<'_>) -> &'static str {
+/// What the text of a block is; `follows` says that the place is after the beginning of the text.
+fn whole_text(part: Part<'_>, kind: Option<Kind>, follows: bool) -> &'static str {
+    if follows && kind == Some(Kind::Word(Word::Define)) {
+        return "A block has one definition: give the next one a block of its own.";
+    }
     match part {
         Part::Routine(_) => "The text of routine is one command: put several into parentheses.",
         Part::Among(_, _) => "The text of among is a whole among ( .. ), and nothing else.",
@@ -260,8 +263,9 @@ fn push_cure<'a>(
     }
     match faulty.part {
         Some(part) if is_outside && !spot.token.is_empty() => {
+            let follows = !before.unwrap_or(&[]).is_empty();
             shown.push_str(". ")?;
-            shown.push_str(whole_text(part))
+            shown.push_str(whole_text(part, spot.kind, follows))
         }
         _ => Ok(()),
     }
