@@ -619,7 +619,7 @@ define stem as backwards ( do r do s )
         os.mkfifo(os.path.join(self.folder, "pipe"))
         os.replace(os.path.join(self.folder, "pipe"), os.path.join(self.folder, "my.sbl"))
         said = "my.sbl cannot be read: it is no regular file. The script that was read stays: save FILE keeps it."
-        self.assertIn(said, terminal.got(b"keeps it"))
+        self.assertIn(said, terminal.got(rb"keeps it\.\n> $"))
         self.assertIn(said, terminal.enter(""))
         terminal.save(AUTHOR + "// new\n")
         self.assertIn("no word and no class differs", terminal.got(b"differs"))

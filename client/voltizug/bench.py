@@ -97,9 +97,9 @@ class Bench(Stage):
         # (called after an edit was accepted, and before it is asked what that changed)
         self.on_accepted: Callable[[], None] = lambda: None
         # The states of the files that were written here; the bytes of a text of SCRIPT that was refused; by the hash of a text of which one of SCRIPT
-        # it goes on from; the hash of the text that was rescued.
+        # it goes on from; the hash of the text that was rescued, and the names of its edits.
         self.written, self.refused_text, self.bases = {}, None, {}  # type: Dict[str, FileState], Optional[bytes], Dict[int, Optional[bytes]]
-        self.rescued = 0
+        self.rescued, self.of_rescued = 0, ()  # type: int, Sequence[str]
         self.base: Optional[bytes] = None
         # The texts that were read, by their hashes; by the hash of a text that was saved to SCRIPT, or that a reload replaced, what SCRIPT had before.
         self.read_texts, self.replaced = set(), {}  # type: Set[int], Dict[int, bytes]
@@ -294,7 +294,7 @@ class Bench(Stage):
             self.aside = [(other, names) for other, names in self.aside if other != before.text]
         if word == "reload":
             self.note_file()
-            names, was_saved = typed_names(history), hash(before.text) in self.replaced
+            names, was_saved = self.names(before.text, history), hash(before.text) in self.replaced
             is_aside = before.text != text and self.is_unsaved(before.text) and not self.has_saved(before.text, text)
             lost = self.lost(names, before.text) if is_aside else ()
             if is_aside and (lost or not (names and was_saved)):
@@ -321,15 +321,19 @@ class Bench(Stage):
         if self.is_unsaved(text):
             self.kept.keep("text.base", self.base or b"")
             self.kept.keep("text", text)
-            self.kept.note("about", ["text", *(typed_names(history) or ["a part of the script"])])
+            self.kept.note("about", ["text", *(self.names(text, history) or ["a part of the script"])])
         else:
             self.kept.note("about", ["aside", *aside] if aside else [])
 
-    def note_rescue(self, path: str, base: Optional[bytes]) -> Optional[List[str]]:
+    def names(self, text: bytes, history: Sequence[Any]) -> Sequence[str]:
+        """Returns the names of the definitions that were typed."""
+        return typed_names(history) or (self.of_rescued if hash(text) == self.rescued else ())
+
+    def note_rescue(self, path: str, edits: Sequence[str], base: Optional[bytes]) -> Optional[List[str]]:
         """Notes a text that is going to be rescued. If SCRIPT had another text when it was typed, returns what it has now and had not then."""
+        self.rescued, self.of_rescued = hash(read_file(path)), edits
         if base is None or base == self.file_text:
             return None
-        self.rescued = hash(read_file(path))
         self.bases[self.rescued] = base
         places = self.places()
         return [name for name, row in places.definitions.items() if places.text[int(row.start) : int(row.end)] not in base]

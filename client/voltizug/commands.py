@@ -35,9 +35,10 @@ BEFORE_FILE, QUOTED = ("(?:%s) " % WITH_FILE, r"(?:%s)(?:\s.*)?\s>\s*" % REPORT)
 NO_FILE = [(before + QUOTED, "Names of files are written without quotes, blanks included, and nothing was done.") for before in BEFORE_FILE]
 NO_FILE += [("(?!%s)%s[<>|]" % (REPORT, BEFORE_FILE[0]), "{c} takes the name of a file, without a sign before it: {usage}.")]
 ALONE = "|".join(name for name in REPORTING if name not in COMMANDS or not COMMANDS[name].takes)
+OF_WHOLE = "This looks like a script. replace takes a whole one, up to a line with a single point."
 INTO_FILE = "A report goes into a file by > FILE, with blanks around the >, as in: classes > my.classes. There are no pipes here."
 NO_FILE += [(r"(?!uses )(?:%s) (?:(?:.* )?(?:\||>>) .|.* >\Z)|(?:%s) (?:\||>>?)\Z" % (REPORT, ALONE), INTO_FILE)]
-NO_FILE += [(r"help (?:.* )?[>|]", "help goes into no file: docs/REFERENCE.md describes all commands.")]
+NO_FILE += [(r"help (?:.* )?[>|]", "help goes into no file: docs/REFERENCE.md describes all commands."), (r"integers \(", OF_WHOLE)]
 # How a comment and a declaration of a script begin.
 COMMENT, DECLARATION = r"\s*(//|/\*)", r"(%s)( |\Z)" % "|".join(word for word in ITEMS if word != "define")
 # The commands of Snowball that are none of `work`.
@@ -69,7 +70,7 @@ STRANGE: Sequence[Tuple[str, str]] = (
     (COMMENT, "A comment begins with # at the beginning of the line. replace takes a whole script, up to a line with a single point."),
     (r"\s*([\[\](')$]|(%s)( |\Z))" % "|".join(OF_SCRIPT), "This is no command, but of a script, perhaps, and no block is open: routine NAME, among NAME K or grouping NAME opens one."),
     (r"define( |\Z)", "A definition begins with define NAME as, or define NAME and the terms of a grouping, in one line."),
-    (DECLARATION, "This looks like a script. replace takes a whole one, up to a line with a single point."),
+    (DECLARATION, OF_WHOLE),
 )
 
 

@@ -73,8 +73,15 @@ def advice(line: str, source: str, carets: str, text: bytes) -> str:
         name = source[carets.index("^") + 1 :].partition("}")[0]
         if code := re.fullmatch(r"[uU]\+?([0-9A-Fa-f]{1,6})", name):
             return ". Did you mean {U+%s}?" % code[1]
-        names = list(dict.fromkeys(re.findall(r"\bstringdef\s+(\S+)", text.decode("utf-8", "replace"))))
-        return "." * bool(near(name, names)) + meant(name, names)
+        found = re.finditer(r"\b(?:stringdef|define)\s+(\S+)", text.decode("utf-8", "replace"))
+        names = {other[1]: 1 + other.string.count("\n", 0, other.start()) for other in found if other[0].startswith("stringdef") or other[1] == name}
+        at = next((number for other, number in names.items() if name in (other, other.strip("{}()[]',;:\"="))), 0)
+        place = re.search(r":(\d+):\d+: ", line)
+        if at and place and at > int(place[1]):
+            return ". Line %d defines it, but has to be above this" % at
+        if at:
+            return ". Line {0} is meant to, perhaps: stringdef {1} '..' or stringdef {1} hex '..'".format(at, short(name))
+        return "." * bool(near(name, names)) + meant(name, list(names))
     if ": this is no code of a character: " in line and "^" in carets and re.match(r"\{U\+[0-9A-F]{1,6}\}", source[carets.index("^") :]):
         return ". No character has a code from D800 to DFFF or above 10FFFF"
     unknown = re.search(r": (\w+) is not declared\. Declare it\b.*, or use another name\.\Z", line)
@@ -155,7 +162,8 @@ def lacking_begin(found: Iterable[Parenthesis], lines: Sequence[bytes]) -> str:
             row = line_above(one, lines, begin.row) if one.is_first and one.indent > begin.indent else 0
             if row in ends and not ends[row].is_first:
                 return ". By the layout, the ) of %d:%d is too many" % ends[row][1:3]
-            if row and row not in ends:
+            # (what is between them is farther right)
+            if row and row not in ends and any(line.strip() for line in lines[row : one.row - 1]):
                 return ". By the layout, line %d lacks the ( that the ) of %d:%d closes" % (row, one.row, one.column)
             ends.update({begin.row: one} if begin.row < one.row else {})
     return ""

@@ -133,6 +133,16 @@ def plain_braces(script: Script) -> Iterable[Lint]:
         yield token.start, "%s has { and } as letters: no stringescapes {} is above it" % short(token.text)
 
 
+def twice_defined(script: Script) -> Iterable[Lint]:
+    """A stringdef of a name that an earlier one defines otherwise."""
+    tokens, there = script.tokens, {}  # type: Sequence[Token], Dict[str, List[str]]
+    for i in [i for i, token in enumerate(tokens) if token.kind == "word" and token.text == "stringdef"]:
+        name, *text = [token.text for token in tokens[i + 1 : i + 4]]
+        text = text[: 1 + (text[0] in ("hex", "decimal"))]
+        if there.setdefault(name, text) != text:
+            yield tokens[i].start, "another stringdef above this defines %s otherwise: from here on it is this one" % short(name)
+
+
 def undefined(script: Script) -> Iterable[Lint]:
     """The declarations of routines and groupings that have no definition; those of others without a use, and of booleans that are only set."""
     names, uses = script.names, {}  # type: Names, Dict[str, List[str]]
@@ -167,15 +177,17 @@ def bare(body: Sequence[Token]) -> Iterable[Tuple[int, int]]:
     texts, before, i = [token.text for token in body] + [""], "as", 0
     while i < len(body) and (i or texts[end_of(body, 0) if texts[0] == "(" else -1] != "or"):
         end = i if texts[i] != "(" or before in ("as", "backwards") else end_of(body, i) - 1
+        while body[i].kind == "name" and texts[end + 1] == "or" and end + 2 < len(body) and body[end + 2].kind == "name":
+            end += 2
         if before not in GOVERNING and not before.isdigit() and texts[end + 1] not in ("or", "and", ")", ""):
             yield i, end
         before, i = texts[end], end + 1
 
 
 def bare_commands(script: Script) -> Iterable[Lint]:
-    """`false`, or a `fail`, before something else; in an external also a routine that changes something and may fail, or ( .. or such a routine ),
-    without `do`."""
-    doubtful = script.doubtful & script.doing(*CHANGING)
+    """`false`, or a `fail`, before something else; in an external also a routine that changes something and may fail, such ones with `or`, or
+    ( .. or such a routine ), without `do`."""
+    doubtful, stops = script.doubtful & script.doing(*CHANGING), "if {0} fails, nothing after it in {1} runs: do {0} is meant, perhaps"
     for name, body in script.bodies.items():
         for i, end in bare(body):
             is_plain = body[i].text == "false" or body[i + 1].text in ("true", "false")
@@ -184,9 +196,11 @@ def bare_commands(script: Script) -> Iterable[Lint]:
                 yield body[i].start, "%s always fails, and nothing after it in %s runs" % (body[i].text, name)
             elif script.names.kinds.get(name) != "external":
                 continue
-            elif body[end].text in doubtful or i < end and body[end - 2].text == "or" and body[end - 1].text in doubtful:
-                what = "( .. )" if i < end else body[i].text
-                yield body[i].start, "if {0} fails, nothing after it in {1} runs: do {0} is meant, perhaps".format(what, name)
+            elif body[i].kind == "name" and all(token.text in doubtful for token in body[i : end + 1 : 2]):
+                names = " ".join(short(token.text) for token in body[i : end + 1])
+                yield body[i].start, stops.format("( %s )" % names if i < end else names, name)
+            elif i < end and body[end - 2].text == "or" and body[end - 1].text in doubtful:
+                yield body[i].start, stops.format("( .. )", name)
 
 
 def stopping_calls(script: Script, bench: Bench, known: Sequence[int]) -> Iterable[Lint]:
@@ -195,7 +209,7 @@ def stopping_calls(script: Script, bench: Bench, known: Sequence[int]) -> Iterab
     calls = Counter(token.text for body in bodies.values() for token in body)
     doing = [name for name in script.doubtful & script.doing(*CHANGING, *MOVING) if calls[name] == 1]
     doubtful = [name for name in doing if {"test", "not"}.isdisjoint(token.text for token in bodies[name][:2])]
-    found = [(name, body, i) for name, body in bodies.items() for i, end in bare(body) if body[end].text in doubtful and body[i].start not in known]
+    found = [(name, body, i) for name, body in bodies.items() for i, end in bare(body) if i == end and body[i].text in doubtful and body[i].start not in known]
     counts = {(row.name, getattr(row, "k", "")): int(row.count) for row in (bench.read("counts") if found else []) if row.kind in ("routine", "among")}
     what = "{0} fails for {1:,} of {2:,} words, and then nothing after it in {3} runs: do {0} is meant, perhaps"
     for name, body, i in found:
@@ -238,14 +252,17 @@ def late_takings(script: Script) -> Iterable[Lint]:
 
 
 def unset_slices(script: Script) -> Iterable[Lint]:
-    """The first command of a routine that takes the slice, if there is no [ or no ] in the routine, in what it calls, and in what calls it; and a
-    substring whose strings take one, if the routine has no [."""
+    """The first command of a routine that takes the slice, if there is no [ or no ] in the routine, in what it calls, and in what calls it; a [ or a ]
+    whose other one is in what calls it alone; and a substring whose strings take one, if the routine has no [."""
     there = {sign: reached(script.having(sign), script.calls) | script.doing(sign) for sign in "[]"}
     what = "{}, what it calls and what calls it have no {}: this {} takes an earlier slice, or an empty one"
     for name, body in script.bodies.items():
         lacking = [sign for sign in "[]" if name not in there[sign]]
         for token in [token for token in body if token.text in TAKING and lacking][:1]:
             yield token.start, what.format(name, in_words(lacking, "and no"), token.text)
+        half = [sign for sign in "[]" if not lacking and name not in script.doing(sign)]
+        for token in [token for token in body if token.text in "[]" and half and not script.texts[name].isdisjoint(TAKING)][:1]:
+            yield token.start, "{} and what it calls have no {}: [substring] is meant, perhaps".format(name, half[0])
         for token, then, i in zip(body, body[1:], range(2, len(body) if not lacking and "[" not in script.texts[name] else 0)):
             if (token.text, then.text) == ("substring", "among") and any(other.text in TAKING[:2] for other in body[i : end_of(body, i)]):
                 yield token.start, "the strings of this substring take an earlier slice: [substring] is meant, perhaps"
@@ -421,15 +438,15 @@ def lints(bench: Bench, has_all: bool = False) -> List[str]:
         return ["%s has more than {:,} bytes, and is not looked at".format(LARGEST) % named(bench.script)] if has_all else []
     script, sees_words = Script(bench.places()), has_all or bench.size <= MANY
     outcomes = bench.outcomes() if sees_words else []
-    looks = (misused, unset_slices, bare_commands, plain_braces, late_takings, half_done, idle_amongs, unset_integers, undefined)
+    looks = (misused, unset_slices, bare_commands, plain_braces, twice_defined, late_takings, half_done, idle_amongs, unset_integers, undefined)
     found = [lint for look in looks for lint in look(script)]
     sees_runs = has_all or int(bench.program.now.limit) * sum(row[1:] == ("refused", "Steps") for row in outcomes) <= COSTLY
     found += stopping_calls(script, bench, [start for start, _ in found]) if sees_words and sees_runs else []
     found += strange_strings(script, outcomes) if has_all or bench.size >= FEW else []
     found += put_blanks(script, outcomes)
-    # (of words in capitals no string says where it is)
-    is_small = 2 * sum(row.word != row.word.lower() for row in outcomes) <= len(outcomes)
-    found += wrong_ways(script, bench, outcomes) if outcomes and script.places.entries and sees_runs and is_small else []
+    # (of words in capitals, or with columns of a table, no string says where it is)
+    is_list = 2 * sum(row.word != row.word.lower() or "\t" in row.word for row in outcomes) <= len(outcomes)
+    found += wrong_ways(script, bench, outcomes) if outcomes and script.places.entries and sees_runs and is_list else []
     beyond = [token for token in script.tokens if has_all and token.kind == "literal" and not token.text.isascii()]
     others = " (and {})".format(counted(len(beyond) - 1, "more literal")) if len(beyond) > 1 else ""
     asked = ": other compilers ask for its code, as {U+%04X} after stringescapes {}"

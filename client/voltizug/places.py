@@ -8,7 +8,7 @@ BOM = b"\xef\xbb\xbf"
 # Of a larger script tokens are not asked: that takes seconds.
 LARGEST = 200000
 # The words of commands that can go round, and of those that can make the text longer.
-TURNING, GROWING = ("repeat", "goto", "gopast", "loop", "atleast"), ("<-", "<+", "insert", "attach")
+TURNING, GROWING = ("repeat", "loop", "atleast"), ("<-", "<+", "insert", "attach")
 
 
 class Places:

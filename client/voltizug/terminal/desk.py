@@ -18,6 +18,7 @@ from .screen import Screen
 NONSENSE = 5
 # What becomes another one in a warning if something else is edited: its place, and figures.
 VARYING = re.compile(r"\A.+?:\d+:\d+: |\Anot in .+?: line \d+ of \w+: |[\d,]+ of [\d,]+ words")
+VARYING_PLACE = re.compile(r"\d+:\d+")
 # A list of words: some lines, each of which has one, and no signs that a script begins with.
 LIST = re.compile(rb"(?:\s*[^\s()/]+[^\S\n]*\n){3,}\s*\Z")
 # Faults of the script have smaller numbers; the status after Ctrl-C at the start.
@@ -32,8 +33,8 @@ class Desk:
         self.screen = Screen(self.editor, options.color, options.has_pager)
         # Warnings that were given, and lints; lines in a row that are no command; whether WORDS was saved since it was read.
         self.warned, self.linted, self.nonsense, self.has_old_words = [], [], 0, False  # type: List[str], List[str], int, bool
-        # What the last edit changed.
-        self.own: List[Any] = []
+        # What the last edit changed; what was said last of a run that is refused.
+        self.own, self.ending = [], ""  # type: List[Any], str
         # The files and what they had; whether `work` has waited for one without its fault; the status with which it ends.
         self.paths = [path for path in (bench.script, bench.words) if path]
         self.files: Sequence[Optional[bytes]] = ()
@@ -131,6 +132,8 @@ class Desk:
         is_script, is_list = b"externals" in b"".join(words), bool(LIST.match(script))
         if b"externals" in script or not (is_script or is_list):
             return ""
+        if b"externals" in (kept.read_file(self.options.families) or b""):
+            return "%s was taken as the file of --families: --families FILE SCRIPT WORDS" % short(self.options.families)
         what = short(self.paths[1]) + " looks like a script" if is_script else short(self.paths[0]) + " looks like a list of words"
         return "%s. The script comes first: %s work SCRIPT WORDS" % (what, CALLED)
 
@@ -302,13 +305,17 @@ class Desk:
         self.bench.program.is_summing = True
         if self.editor.is_interrupted:
             raise Skipped
-        refused = [row for row in own if row.kind == "changed" and row.new_kind == "refused"]
-        worst = next((row.word for row in refused if row.new in loops.NAMES), refused[0].word if refused else "")
-        tail = self.new_lints() if edit.command in ("reload", *BLOCKS, *OPEN_BLOCKS) else []
+        is_text, now = edit.command in ("reload", *BLOCKS, *OPEN_BLOCKS), edit.changes if not edit.note else ()
+        refused, still = ([row for row in part if row.kind == "changed" and row.new_kind == "refused"] for part in (own, now if is_text else ()))
+        worst = next((row.word for row in [*refused, *still] if row.new in loops.NAMES), refused[0].word if refused else "")
+        tail = self.new_lints() if is_text else []
         typed = "\n".join(lines[1:-1])
         tail += warn.on_typed(lines[0], typed, self.bench.by_word()) if not typed.isascii() else []
-        ending = loops.ending(worst, self.bench) if refused else ""
-        return [*(self.new_warnings() if edit.command == "reload" else []), *tail, ending]
+        ending, told = loops.ending(worst, self.bench) if worst else "", self.ending
+        self.ending = ending or told
+        # (words that were refused before may go round elsewhere now)
+        is_new = refused or VARYING_PLACE.sub("", ending) != VARYING_PLACE.sub("", told)
+        return [*(self.new_warnings() if edit.command == "reload" else []), *tail, ending * bool(is_new)]
 
     def added(self, changes: Sequence[Any]) -> Dict[str, rows.Outcome]:
         return self.bench.by_word() if any(row.kind == "added" for row in changes) else {}

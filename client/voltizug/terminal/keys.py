@@ -11,6 +11,7 @@ import signal
 import subprocess
 import sys
 import termios
+import time
 from typing import Any, Callable, Dict, List, Optional, Sequence, Tuple
 
 HISTORY, INTERRUPT, PAUSE = 2000, b"\x03", 0.1
@@ -115,16 +116,20 @@ class Editor:
         if pager:
             held = termios.tcgetattr(0)
             pager.send_signal(signal.SIGSTOP)
+            # (until it has stopped it takes a key of the shell's)
+            with contextlib.suppress(ChildProcessError):
+                os.waitid(os.P_PID, pager.pid, os.WSTOPPED | os.WEXITED | os.WNOWAIT)
         print(flush=True)
         set_keys(self.base)
         signal.signal(signal.SIGTSTP, signal.SIG_DFL)
         os.kill(os.getpid(), signal.SIGTSTP)
         signal.signal(signal.SIGTSTP, self.hear_stop)
         if pager:
-            # (it draws its page again)
+            # (it draws its page again, but does not hear a signal that comes just before it waits for a key: so there are two)
             set_keys(held)
-            pager.send_signal(signal.SIGCONT)
-            pager.send_signal(signal.SIGWINCH)
+            for number in (signal.SIGCONT, signal.SIGWINCH, signal.SIGWINCH):
+                pager.send_signal(number)
+                time.sleep(PAUSE)
 
     def hear_continue(self, *_: object) -> None:
         if not self.pager:

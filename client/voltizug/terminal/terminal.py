@@ -70,7 +70,8 @@ class Terminal(Desk):
             # (Enter is for what was saved)
             is_same = self.bench.script not in self.bench.saved() and self.bench.refused_text is None and os.path.exists(self.bench.script)
             drops = not line and is_same and self.bench.is_unsaved(self.bench.program.now.text)
-            if self.is_sure(line or "Enter", "%s has not changed: Enter again drops what you typed." % short(self.bench.script) if drops else ""):
+            what = "has a change that the current script lacks: Enter again reads it and" if self.bench.is_older else "has not changed: Enter again"
+            if self.is_sure(line or "Enter", "%s %s drops what you typed." % (short(self.bench.script), what) if drops else ""):
                 self.edit([line or "reload"])
         elif command in BLOCKS or line in OPEN_BLOCKS:
             self.read_block(line)
@@ -341,7 +342,7 @@ class Terminal(Desk):
             last = left[-1]
             for word in [word for word in last.words if word not in before]:
                 self.ask("add " + word)
-            others, script = self.bench.note_rescue(last.path, last.base), short(self.bench.script)
+            others, script = self.bench.note_rescue(last.path, last.edits, last.base), short(self.bench.script)
             lacks = "the changes of %s" % in_words(others, "and", 5) if others else "these changes"
             self.screen.say("%s has changed since these edits were typed: the text of then comes back, without %s." % (script, lacks) if others is not None else "")
             if {*before, *self.bench.added}.issuperset(last.words) and (not last.path or self.edit(["replace " + last.path])):
