@@ -63,6 +63,11 @@ pub(crate) fn is_letter(character: char) -> bool {
     }
 }
 
+/// Returns whether a character is of an alphabet some of whose letters look like Latin ones: Greek, Cyrillic, or full width.
+pub(crate) fn may_look_latin(character: char) -> bool {
+    matches!(character, '\u{370}'..='\u{52F}' | '\u{FF21}'..='\u{FF5A}')
+}
+
 /// Returns what to write in place of a character that begins no token, if that is sure.
 pub(crate) fn foreign_character(character: char) -> Option<&'static str> {
     match character {

@@ -7,7 +7,7 @@ use crate::definitions::{push_no_definition, push_undefined, push_wrong_mode};
 use crate::enclosed::push_enclosed_in;
 use crate::encodings::push_conversion;
 use crate::expectations::{push_expectation, push_use};
-use crate::foreign::{foreign_character, is_end_line, is_letter, left_out_text};
+use crate::foreign::{foreign_character, is_end_line, is_letter, left_out_text, may_look_latin};
 use crate::insertions::{follows_quote, push_insertion, push_missing_quote};
 use crate::misspelt::{push_meaning, push_substring, push_word_before};
 use crate::near::{nearest_of, push_listed};
@@ -352,6 +352,11 @@ fn push_character(shown: &mut String, place: Place<'_>) -> Result<(), AllocError
         _ => return shown.push_str(INSERTS),
     };
     push_alone(shown, character)?;
+    if may_look_latin(character) {
+        shown.push_str(" (U+")?;
+        push_hexadecimal(shown, u32::from(character), 4_096)?;
+        shown.push(')')?;
+    }
     if character == '_' {
         return shown.push_str(
             " cannot begin a name: a name begins with a letter from a to z or A to Z",

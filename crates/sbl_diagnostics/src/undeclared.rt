@@ -11,6 +11,9 @@ use sbl_script::Part;
 use sbl_text::{Kind, Sign, Token, Word};
 use std::alloc::{AllocError, Global};
 
+/// A name with fewer bytes is near to so many that it may well be a new one (our own choice).
+const LEAST_SURE: usize = 4;
+
 /// How a name is used at a place.
 #[derive(Clone, Copy, PartialEq, Eq)]
 enum Usage {
@@ -212,7 +215,7 @@ fn push_way_out(
     let is_word = need.usage == Usage::Command
         && is_word_nearer(faulty.alloc, name, &names, &before, faulty.part)?;
     if !is_word && push_near(faulty.alloc, shown, name, &names)? {
-        if need.usage == Usage::New {
+        if need.usage == Usage::New || name.len() < LEAST_SURE {
             return push_declaration(shown, place, need, " If not, declare", ".");
         }
         return Ok(());
