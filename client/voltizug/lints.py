@@ -140,7 +140,7 @@ def twice_defined(script: Script) -> Iterable[Lint]:
         name, *text = [token.text for token in tokens[i + 1 : i + 4]]
         text = text[: 1 + (text[0] in ("hex", "decimal"))]
         if there.setdefault(name, text) != text:
-            yield tokens[i].start, "another stringdef above this defines %s otherwise: from here on it is this one" % short(name)
+            yield tokens[i].start, "this is a second stringdef of %s: from here on it replaces the first one" % short(name)
 
 
 def undefined(script: Script) -> Iterable[Lint]:

@@ -53,7 +53,7 @@ MAY_NOT: Dict[str, str] = {
     "no words": "{path} is there already, and append puts words only into the file of words or a new file.",
     "gone": "{path} is not there any more, and was not written: {other}.",
     "gone?": "{path} is not there any more (deleted or renamed). Nothing was written: save {path} again writes it anew.",
-    "no folder": "{path} cannot be written: there is no folder {folder}.",
+    "no folder": "{path} cannot be written: there is no folder {folder}.{one}",
     "folder": "{path} cannot be written: it is a folder. Name a file in it.",
     "pipe": "{path} cannot be written: it is no regular file. {Other}.",
     "closed": "{path} cannot be written: you may not write there. {Other}.",
@@ -326,8 +326,10 @@ def may_not(why: str, command: str, path: str, then: str = "") -> str:
     """Returns why a command does not write to a file, by its key in MAY_NOT."""
     to, folder = "save to %s file" if command == "save" else "name %s file", os.path.dirname(path) or "."
     room = no_room(folder) if "{room}" in MAY_NOT[why] else ""
-    other, new = to % "another", to % "a new"
-    return MAY_NOT[why].format(path=short(path), c=command, other=other, Other=other.capitalize(), new=new, then=then, folder=short(folder), room=room)
+    other, new, one = to % "another", to % "a new", " It is taken as one name, with a blank in it." * (" " in folder)
+    return MAY_NOT[why].format(
+        path=short(path), c=command, other=other, Other=other.capitalize(), new=new, then=then, folder=short(folder), room=room, one=one
+    )
 
 
 # By the number of a refusal what makes its sentence of the line and the bench.

@@ -1,5 +1,6 @@
 """`snowbench lsp`: the language server over standard input and output. It takes --program FILE, as `work` does."""
 import os
+import signal
 import sys
 from typing import Sequence
 
@@ -17,8 +18,9 @@ CAPABILITIES = {
 def main(words: Sequence[str]) -> int:
     """Serves until the client ends it. (A thread may still wait for standard input then.)"""
     program = words[1] if len(words) == 2 and words[0] == "--program" else "" if words else usual_program()
-    if not program:
-        sys.stderr.write("snowbench: lsp takes no file: an editor starts it, and sends it the texts\n")
+    if not program or sys.stdin is None or sys.stdin.isatty():
+        sys.stderr.write("snowbench: an editor starts lsp, and sends it the texts (docs/EDITORS.md)\n" if program else "snowbench: lsp takes no file: an editor starts it, and sends it the texts\n")
         return 2
+    signal.signal(signal.SIGINT, signal.SIG_DFL)
     sys.setswitchinterval(0.001)
     os._exit(Shown(program, CAPABILITIES).run())

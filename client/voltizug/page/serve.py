@@ -195,10 +195,16 @@ def in_json(data: Any) -> bytes:
     return json.dumps(data, ensure_ascii=False, separators=(",", ":")).encode("utf-8", "replace")
 
 
+def port(text: str) -> int:
+    if not text.isascii() or not text.isdigit() or int(text[:6]) > 65535:
+        raise argparse.ArgumentTypeError("it takes a number from 0 to 65535")
+    return int(text)
+
+
 def options_of(given: Sequence[str]) -> argparse.Namespace:
     parser = argparse.ArgumentParser(prog="snowbench page", usage=USAGE, add_help=False, allow_abbrev=False)
     parser.add_argument("--program", default=usual_program(), help=argparse.SUPPRESS)
-    parser.add_argument("--port", type=int, metavar="N")
+    parser.add_argument("--port", type=port, metavar="N")
     parser.add_argument("--external", metavar="NAME")
     parser.add_argument("--families", metavar="FILE")
     parser.add_argument("--open", action="store_true")
@@ -223,7 +229,7 @@ def fault_of(given: argparse.Namespace) -> str:
             return "%s cannot be read: %s" % (named(path), unreadable(path))
         if "\n" in path:
             return "%s has a line feed in its name" % named(path)
-    return "" if 0 <= (given.port or 0) <= 65535 else "--port takes a number from 0 to 65535"
+    return ""
 
 
 def server_of(port: Optional[int], script: str, live: Live) -> Server:
