@@ -871,6 +871,27 @@ class Traps(Case):
         self.assertNotIn("has changed", terminal.enter("rescue"))
         self.assertEqual(terminal.enter("save my.sbl"), "saved in my.sbl")
 
+    def test_a_rescue_that_a_save_replaces(self):
+        """What was typed before the terminal was closed has its names afterwards, too."""
+        terminal = self.begin()
+        terminal.enter("routine plural", "true", ".")
+        os.kill(terminal.child, signal.SIGHUP)
+        self.assertEqual(terminal.ended(), 1)
+        terminal = self.terminal(self.folder)
+        terminal.got()
+        terminal.enter("rescue")
+        terminal.save(AUTHOR + "// new\n")
+        self.assertIn("replaced: plural (undo brings it back)", terminal.enter(""))
+        self.assertIn("A reload replaced what you typed (plural)", terminal.enter("quit"))
+
+    def test_enter_after_an_undo_of_a_save(self):
+        terminal = self.begin()
+        terminal.enter("routine plural", "true", ".")
+        terminal.save(AUTHOR.replace("'ity'", "'ite'"))
+        terminal.enter("")
+        terminal.enter("undo")
+        self.assertIn("my.sbl has a change that the current script lacks: Enter again reads it and drops what you typed.", terminal.enter(""))
+
     def test_two_works_leave_edits_behind(self):
         first = self.begin()
         second = self.terminal(self.folder)

@@ -1,6 +1,7 @@
 """The server as an editor sees it. What it has to show is worked out from rows of `work`, or by hand."""
 import hashlib
 import os
+import pty
 import signal
 import subprocess
 import sys
@@ -581,3 +582,11 @@ class Trouble(OverServer):
     def test_the_command_line(self):
         done = subprocess.run([sys.executable, "-B", CLIENT, "--lsp", "my.sbl"], capture_output=True, text=True)
         self.assertEqual((done.returncode, done.stderr[:20]), (2, "snowbench: lsp takes"))
+
+    def test_a_terminal(self):
+        """Nobody types the messages of the protocol."""
+        ours, theirs = pty.openpty()
+        done = subprocess.run([sys.executable, "-B", CLIENT, "--lsp"], stdin=theirs, capture_output=True, text=True)
+        os.close(ours)
+        os.close(theirs)
+        self.assertEqual((done.returncode, done.stderr[:30]), (2, "snowbench: an editor starts ls"))

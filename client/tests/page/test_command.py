@@ -66,7 +66,7 @@ class Commands(Case):
         taken = socket.create_server(("127.0.0.1", 0))
         self.addCleanup(taken.close)
         port = str(taken.getsockname()[1])
-        cases = {("none.sbl",): "none.sbl cannot be read: there is no such file", ("my.sbl", "my.sb"): "my.sb cannot be read: there is no such file. Did you mean my.sbl?", ("--port", "70000", "my.sbl"): "0 to 65535", ("--port", port, "my.sbl"): "cannot be had", (): "usage: snowbench page [--port N]"}
+        cases = {("none.sbl",): "none.sbl cannot be read: there is no such file", ("my.sbl", "my.sb"): "my.sb cannot be read: there is no such file. Did you mean my.sbl?", ("--port", "70000", "my.sbl"): "0 to 65535", ("--port", "abc", "my.sbl"): "--port: it takes a number from 0 to 65535", ("--port", port, "my.sbl"): "cannot be had", (): "usage: snowbench page [--port N]"}
         for words, said in cases.items():
             page = self.begin(room, *words)
             self.assertIn(said, page.stderr.read().decode())
