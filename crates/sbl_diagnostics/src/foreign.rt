@@ -24,6 +24,8 @@ fn foreign_word(name: &str) -> Option<&'static str> {
         "begin" | "end" => Some("Snowball has no begin and end: commands are in parentheses."),
         "return" => Some("Snowball has no return: a routine ends with the last of its commands."),
         "at" => Some("Write atlimit or atmark as one word."),
+        "replace" => Some("Snowball has no replace: <- 'x' puts x in place of the slice."),
+        "remove" => Some("Snowball has no remove: delete takes the slice out."),
         _ => None,
     }
 }

@@ -212,7 +212,7 @@ fn push_syntax(shown: &mut String, place: Place<'_>) -> Result<(), AllocError> {
     }
 }
 
-/// Appends that a token cannot follow these, cannot begin the text or is missing, and what can come there.
+/// Appends that a token cannot follow these, cannot begin a text or is missing, and what can come there.
 fn push_clause<'a>(
     shown: &mut String,
     place: Place<'a>,
@@ -231,10 +231,10 @@ fn push_clause<'a>(
         push_open(faulty.alloc, shown, faulty.text, open)?;
     } else {
         push_thing(shown, spot)?;
-        shown.push_str(if begins && faulty.part.is_some() {
-            " cannot begin the text"
-        } else {
-            " cannot follow what is before it"
+        shown.push_str(match (begins, faulty.part) {
+            (true, Some(_)) => " cannot begin the text",
+            (true, None) => " cannot begin a script",
+            (false, _) => " cannot follow what is before it",
         })?;
         if is_at_item(spot.kind) {
             push_open(faulty.alloc, shown, faulty.text, open)?;
