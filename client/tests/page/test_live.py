@@ -57,7 +57,7 @@ class Edits(Page):
         self.save(live, SCRIPT.replace("do r", "do rr"))
         fault = live.part("fault")
         self.assertEqual((fault["line"], fault["column"], fault["length"], fault["origin"]), (6, 31, 2, "file"))
-        self.assertEqual(fault["sentence"], "rr is not declared. Did you mean r?")
+        self.assertEqual(fault["sentence"], "rr is not declared. Did you mean r? If not, declare it, as in routines ( rr ).")
         self.assertEqual((live.part("text"), live.outcomes.now[0]), (SCRIPT, "=walk"))
         self.save(live, SCRIPT)
         self.assertIsNone(live.part("fault"))

@@ -183,9 +183,11 @@ class Editor:
             self.is_waiting = True
             signal.setitimer(signal.ITIMER_REAL, *[PERIOD if self.saved else REST] * 2)
             text = input(prompt)
-        except SystemError as why:
+        except (SystemError, KeyboardInterrupt):
             # (`timeout` sends SIGCONT after SIGTERM, and CPython calls the handler of the second while the exception of the first one is set)
-            raise why.__cause__ if isinstance(why.__cause__, Hangup) else why
+            if self.is_ended:
+                raise Hangup from None
+            raise
         except EOFError:
             # (a terminal that is gone ends its input, too)
             set_keys(self.typing, is_needed=True)
