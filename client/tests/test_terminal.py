@@ -892,6 +892,26 @@ class Traps(Case):
         terminal.enter("undo")
         self.assertIn("my.sbl has a change that the current script lacks: Enter again reads it and drops what you typed.", terminal.enter(""))
 
+    def test_a_mark_of_stems_of_other_words(self):
+        """A word is taken out after its stem was approved, and one is added: there are as many, and each stem is that of the word before."""
+        words = ["%s%s" % (letter * 3, end) for letter in "abcdefgh" for end in ("", "ing")]
+        terminal = self.begin(list="\n".join(words) + "\n")
+        terminal.enter("approve my.stems", "remove aaa", "add news")
+        self.assertIn("Words were removed or added since my.words was read: the stems of my.stems are of other words, perhaps.", terminal.enter("mark my.stems"))
+        self.assertIn("since the mark", terminal.enter("mark my.stems"))
+
+    def test_a_reply_that_is_a_command(self):
+        terminal = self.begin()
+        self.assertIn("y adds them", terminal.type("add hundo Kato\r", rb"nothing: "))
+        shown = terminal.type("stats\r", rb"runs so far\n> ")
+        self.assertIn("Nothing was added.", shown)
+        self.assertIn("8 words", shown)
+        terminal.type("add hundo Kato\r", rb"nothing: ")
+        self.assertEqual(terminal.type("No\r", rb"\n> ").count("added"), 0)
+        terminal.type("add hundo Kato\r", rb"nothing: ")
+        self.assertIn('Nothing was added: "Maybe" is no answer to this.', terminal.type("Maybe\r", rb"this\.\n> "))
+        self.assertIn("add needs a word", terminal.enter("add    "))
+
     def test_two_works_leave_edits_behind(self):
         first = self.begin()
         second = self.terminal(self.folder)

@@ -75,7 +75,8 @@ def advice(line: str, source: str, carets: str, text: bytes) -> str:
             return ". Did you mean {U+%s}?" % code[1]
         found = re.finditer(r"\b(?:stringdef|define)\s+(\S+)", text.decode("utf-8", "replace"))
         names = {other[1]: 1 + other.string.count("\n", 0, other.start()) for other in found if other[0].startswith("stringdef") or other[1] == name}
-        at = next((number for other, number in names.items() if name in (other, other.strip("{}()[]',;:\"="))), 0)
+        # (hex may have come without a name before it)
+        at = next((number for other, number in names.items() if name in (other, other.strip("{}()[]',;:\"=")) or other in ("hex", "decimal")), 0)
         place = re.search(r":(\d+):\d+: ", line)
         if at and place and at > int(place[1]):
             return ". Line %d defines it, but has to be above this" % at

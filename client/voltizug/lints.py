@@ -12,7 +12,7 @@ from .names import Names
 from .near import composed
 from .places import LARGEST, Places
 from .rows import Outcome, Token
-from .words import in_shell
+from .words import MISREAD, in_shell
 
 # (of few words most letters are missing)
 MOST, FEW, MANY = 5, 50, 5000
@@ -251,6 +251,17 @@ def late_takings(script: Script) -> Iterable[Lint]:
                 yield token.start, what.format(before.text, token.text)
 
 
+def early_takings(script: Script) -> Iterable[Lint]:
+    """A command that takes the slice between a [ and the ] after it."""
+    for body in script.bodies.values():
+        is_open, ends = False, [i for i, token in enumerate(body) if token.text == "]"]
+        for i, token in enumerate(body):
+            is_open = token.text == "[" or is_open and token.text != "]"
+            if is_open and token.text in TAKING[:2] and i < max(ends, default=0):
+                yield token.start, "this %s comes before the ] of its slice: it takes an earlier slice, or an empty one" % token.text
+                is_open = False
+
+
 def unset_slices(script: Script) -> Iterable[Lint]:
     """The first command of a routine that takes the slice, if there is no [ or no ] in the routine, in what it calls, and in what calls it; a [ or a ]
     whose other one is in what calls it alone; and a substring whose strings take one, if the routine has no [."""
@@ -419,7 +430,7 @@ def strange_words(script: Script, outcomes: Sequence[Outcome], path: str) -> Lis
     """Words with capitals or signs that no string has, these if they are many, and words with the empty stem."""
     strings = [string for _, _, string in script.places.entries]
     signs = set("".join(re.sub("{[^}]*}", "", token.text) for token in script.tokens if token.kind == "literal"))
-    large = [row.word for row in outcomes if row.word != row.word.lower()] if strings and all(string == string.lower() for string in strings) else []
+    large = [row.word for row in outcomes if row.word != row.word.lower() and not MISREAD.search(row.word)] if strings and all(string == string.lower() for string in strings) else []
     signed = [row.word for row in outcomes if not row.word.isalpha() and any(unicodedata.category(c)[0] in "PS" for c in set(row.word) - signs)]
     empty = [row.word for row in outcomes if (row.kind, row.stem) == ("stem", "")]
     there = {row.word for row in outcomes}
@@ -438,7 +449,7 @@ def lints(bench: Bench, has_all: bool = False) -> List[str]:
         return ["%s has more than {:,} bytes, and is not looked at".format(LARGEST) % named(bench.script)] if has_all else []
     script, sees_words = Script(bench.places()), has_all or bench.size <= MANY
     outcomes = bench.outcomes() if sees_words else []
-    looks = (misused, unset_slices, bare_commands, plain_braces, twice_defined, late_takings, half_done, idle_amongs, unset_integers, undefined)
+    looks = (misused, unset_slices, bare_commands, plain_braces, twice_defined, early_takings, late_takings, half_done, idle_amongs, unset_integers, undefined)
     found = [lint for look in looks for lint in look(script)]
     sees_runs = has_all or int(bench.program.now.limit) * sum(row[1:] == ("refused", "Steps") for row in outcomes) <= COSTLY
     found += stopping_calls(script, bench, [start for start, _ in found]) if sees_words and sees_runs else []

@@ -191,11 +191,21 @@ def returned(calls: List[Call], is_true: bool, places: Places) -> List[Line]:
     return shown
 
 
+def history(found: Sequence[Any]) -> List[str]:
+    """The edits with their numbers; equal ones that follow each other are one line."""
+    lines, number = [], 1
+    for (kind, step), equal in groupby((row.kind, step_of(row)) for row in found):
+        count = len(list(equal))
+        lines.append("  %2d  %-10s  %s%s" % (number, FIGURES[kind], named(step), "   .. {:,} times".format(count) if count > 1 else ""))
+        number += count
+    return lines
+
+
 # By command, the layout of its rows.
 REPORTS: Dict[str, Callable[[Sequence[str]], List[str]]] = {
     "stems": stems, "find": stems, "uses": stems, "classes": classes, "class": class_of, "stem": class_of, "largest": largest, "families": families,
     "stats": lambda lines: ["{:>9,} {}".format(int(row.count), STATS[row.kind][row.count != "1"]) for row in rows.read("stats", lines)],
-    "history": lambda lines: ["  %2d  %-10s  %s" % (i, FIGURES[row.kind], named(step_of(row))) for i, row in enumerate(rows.read("history", lines), 1)],
+    "history": lambda lines: history(rows.read("history", lines)),
     # (the parts of one kind on a line)
     "trace": lambda lines: [
         "  %-10s %s" % (kind + "s", ", ".join(" ".join(map(named, row[1:])) for row in part))

@@ -8,7 +8,7 @@ from .kept import read_file
 from .layout import named
 from .places import BOM
 from .program import LONGEST, encoded
-from .words import converting, in_shell
+from .words import MISREAD, converting, in_shell
 
 
 def is_overlong(text: str) -> bool:
@@ -25,6 +25,7 @@ DECOMPOSED: Kind = (
 LONG_LINE: Kind = (is_overlong, "more than 65,536 bytes", ". run, check, filter and session refuse such a line (72 LineTooLong). Break it")
 LONG_WORD: Kind = (is_overlong, "more than 65,536 bytes, which no line may have", ". Write one word on each line")
 OF_WORDS: Sequence[Kind] = (
+    (MISREAD.search, "UTF-8 that was read as Latin-1, it seems", ". To turn it back: iconv -f utf-8 -t latin1 {file} > NEW"),
     (
         re.compile("\u00a0").search, "a no-break space (U+00A0), which belongs to the word",
         ". To put blanks in its place: sed -i 's/\\xC2\\xA0/ /g' {file}",

@@ -31,6 +31,8 @@ SENTENCES: Dict[int, str] = {
     69: "There are no added words that no file has.",
     72: "A line may have 65,536 bytes at most. Nothing was done.",
 }
+# What is in words of UTF-8 that were read as Latin-1, and written as UTF-8.
+MISREAD = re.compile("[\u00c2-\u00df][\u0080-\u00bf]")
 # Faults of the words, and what is said of them.
 OF_WORDS: Dict[int, str] = {
     43: "{name} has a word of more than 255 characters.",
@@ -107,7 +109,7 @@ def refused(code: int, line: str, bench: Stage) -> str:
         return "%s needs a %s: %s." % (command, COMMANDS[command].takes.partition(" ")[0].lower(), COMMANDS[command].usage)
     if code in OF_WORDS and code != 75 and command == "words" and isinstance(bench, Bench):
         path = bench.words or ""
-        return OF_WORDS[code].format(name=short(path), quoted=in_shell(path)) + " The words that were read stay."
+        return OF_WORDS[code].format(name=short(path), quoted=in_shell(path)).removesuffix(".") + ". The words that were read stay."
     if code in SPECIAL:
         return SPECIAL[code](line, bench)
     name, k, string = [*argument.split(" ", 2), "", ""][:3]

@@ -242,7 +242,11 @@ class Terminal(Desk):
         moved += "at the end, or approve the stems again. The same line again takes them as they are."
         if shifted is not None:
             doubt = moved % (sizes, words.in_quotes(outcomes[shifted].word))
-        if not self.is_sure(line, doubt if is_text and (2 * others > len(stems) <= len(outcomes) or shifted is not None) else ""):
+        is_doubtful = is_text and (2 * others > len(stems) <= len(outcomes) or shifted is not None)
+        if is_doubtful and self.is_out_of_order():
+            doubt = "Words were removed or added since %s was read: the stems of %s are of other words, perhaps. words reads it again. The same line again takes them as they are."
+            doubt = doubt % (short(self.bench.words or ""), short(path))
+        if not self.is_sure(line, doubt if is_doubtful else ""):
             return
         mark = ["%s begins with a byte order mark, which is part of its first stem." % short(path)] * text.startswith("\ufeff")
         is_other = not any(map(warn.DECOMPOSED[0], (row.stem for row in outcomes)))
@@ -254,14 +258,18 @@ class Terminal(Desk):
             self.screen.say(said, layout.figures(self.bench.changes) if path else "The mark is set: changes are counted from here.")
 
     def do_add(self, text: str, command: str = "add") -> None:
-        parts, reply = text.split(), "one"
+        parts, reply, text = text.split(), "one", text if text.strip() else ""
         if len(parts) > 1 and not self.editor.pending:
             prompt = '{0} %d words (%s)? y {1}s them, "one" {1}s one word with blanks in it, Enter {1}s nothing: '.format(command.capitalize(), command)
-            reply = self.asked(prompt % (len(parts), in_words(parts, "and", 6))).lower()
-        for word in {"one": [text], "y": parts, "yes": parts}.get(reply, []):
+            reply = self.asked(prompt % (len(parts), in_words(parts, "and", 6)))
+        for word in {"one": [text], "y": parts, "yes": parts}.get(reply.lower(), []):
             self.ask(command + " " + word)
-        if reply not in ("", "one", "y", "yes"):
-            self.screen.say("Nothing was %sed: %s is no answer to this." % (command.rstrip("e"), words.in_quotes(reply, True)))
+        if reply.lower() not in ("", "n", "no", "one", "y", "yes"):
+            what = "Nothing was %sed" % command.rstrip("e")
+            is_command = reply.partition(" ")[0] in COMMANDS
+            self.screen.say(what + "." if is_command else "%s: %s is no answer to this." % (what, words.in_quotes(reply, True)))
+            # (the question was not seen, perhaps)
+            self.editor.pending[:0] = [reply] * is_command
 
     def do_remove(self, text: str) -> None:
         self.ask("remove " + text) if text in self.bench.by_word() else self.do_add(text, "remove")
@@ -433,11 +441,16 @@ class Terminal(Desk):
     def unlike_words(self) -> str:
         """Returns the sentence on stems that are not one for each line of WORDS, in its order; nothing if they are."""
         path, lines = short(self.bench.words or ""), kept.read_words(self.bench.words)
-        distinct, now = list(dict.fromkeys(filter(None, lines))), [encoded(row.word) for row in self.bench.outcomes()]
-        if now[: len(distinct)] != distinct:
+        distinct = set(filter(None, lines))
+        if self.is_out_of_order():
             return "They are not in the order of the lines of %s, as check and mark need them: words reads it again, and then approve." % path
         more = "%s has %s that no stem is written for (empty, or there before), so check does not take these stems." % (path, counted(len(lines) - len(distinct), "line"))
         return more if len(lines) != len(distinct) else ""
+
+    def is_out_of_order(self) -> bool:
+        """Whether the words do not begin with those of WORDS, in its order."""
+        distinct = list(dict.fromkeys(filter(None, kept.read_words(self.bench.words))))
+        return [encoded(row.word) for row in self.bench.outcomes()[: len(distinct)]] != distinct
 
     def unkept_words(self, then: str = "") -> str:
         """Returns the sentence on words that were added and that no file has; nothing if there are none."""
