@@ -171,6 +171,8 @@ class Others(Case):
     def test_equal_edits_of_history_have_numbers(self):
         lines = reports.laid_out("history", ["done,routine,r", "done,routine,r", "undone,limit,5"], lambda: None)
         self.assertEqual(lines, ["   1  made        routine r", "   2  made        routine r", "   3  taken back  limit 5"])
+        lines = reports.laid_out("history", ["done,script"] * 22 + ["done,routine,r"], Places)
+        self.assertEqual(lines, ["   1  made        the whole script   .. 22 times", "  23  made        routine r"])
 
     def test_warnings(self):
         room = self.room(my_sbl=b"\xef\xbb\xbfexternals\n", my_words="cats \na b\n\tx\n")

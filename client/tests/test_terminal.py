@@ -303,7 +303,7 @@ define stem as backwards ( do r do s )
         terminal.type("add a b\r", rb"nothing: $")
         self.assertEqual(terminal.enter(""), "")
         terminal.type("add a b\r", rb"nothing: $")
-        self.assertEqual(terminal.enter("stats"), 'Nothing was added: "stats" is no answer to this.')
+        self.assertEqual(terminal.enter("maybe"), 'Nothing was added: "maybe" is no answer to this.')
         self.assertIn("kato", terminal.enter("quit"))
         self.assertEqual(terminal.enter("append"), "2 words are now at the end of my.words.")
 
@@ -314,7 +314,7 @@ define stem as backwards ( do r do s )
         self.assertEqual(terminal.enter("y").split("\n"), ["news" + kept, "glass" + kept])
         self.assertEqual(terminal.enter("remove a b"), "a b" + kept)
         terminal.type("remove news glass\r", rb"nothing: $")
-        self.assertEqual(terminal.enter("stats"), 'Nothing was removed: "stats" is no answer to this.')
+        self.assertEqual(terminal.enter("maybe"), 'Nothing was removed: "maybe" is no answer to this.')
 
     def test_another_form_of_unicode(self):
         """A word that is there in another one, a text of words, and what is typed; `lint` says it of the script once."""
@@ -899,6 +899,53 @@ class Traps(Case):
         terminal.enter("approve my.stems", "remove aaa", "add news")
         self.assertIn("Words were removed or added since my.words was read: the stems of my.stems are of other words, perhaps.", terminal.enter("mark my.stems"))
         self.assertIn("since the mark", terminal.enter("mark my.stems"))
+
+    def test_comments_that_undo_does_not_hold(self):
+        """A typed comment that a reload replaces is a step of nothing: the file that has it is named."""
+        terminal = self.begin()
+        terminal.enter("routine plural", "( ['s'] delete ) // mine", ".")
+        terminal.enter("save my.sbl")
+        terminal.enter("routine plural", "( ['s'] delete ) // my thoughts", ".")
+        self.assertIn("has not changed", terminal.enter(""))
+        shown = terminal.enter("")
+        self.assertRegex(shown, r"replaced: plural \(replace \S+/aside brings it back\)")
+        path = shown.rpartition("(replace ")[2].partition(" brings")[0]
+        self.assertIn("replace %s goes back to it, quit again drops it." % path, terminal.enter("quit"))
+        terminal.enter("replace " + path)
+        self.assertIn("// my thoughts", terminal.enter("script"))
+
+    def test_blocks_pasted_after_a_faulty_one(self):
+        """All of a paste is dropped after a fault, and an empty line in it is no Enter."""
+        for begin, end in (("", ""), ("\x1b[200~", "\x1b[201~\r")):
+            terminal = self.begin("my.sbl", "my.words", term="xterm")
+            terminal.got(rb"> ", 1)
+            terminal.send(begin + "routine plural\r( nothing )\r.\rroutine ending\rtrue\r.\rroutine plural\rtrue\r.\r" + end)
+            self.assertIn("The 6 lines that came with it were dropped.", terminal.got(rb"dropped\.\n(.|\n)*> \S*$", 10))
+            self.assertIn("no edit is held", terminal.type("history\r", rb"undo\n"))
+
+    def test_empty_lines_between_pasted_blocks(self):
+        terminal = self.begin("my.sbl", "my.words")
+        terminal.send("routine plural\rtrue\r.\r\r\rroutine ending\rtrue\r.\rhistory\r")
+        shown = terminal.got(rb"2  made(.|\n)*> $", 10)
+        self.assertNotIn("drops what you typed", shown)
+        self.assertIn("2  made        routine ending", shown)
+
+    def test_what_was_rescued_and_is_taken_back(self):
+        terminal = self.begin("my.sbl", "my.words")
+        terminal.enter("routine plural", "true", ".")
+        os.kill(terminal.child, signal.SIGHUP)
+        self.assertEqual(terminal.ended(), 1)
+        terminal = self.terminal(self.folder)
+        terminal.got()
+        terminal.enter("rescue", "undo")
+        self.assertIn("What was rescued is taken back (plural), and no file has it: redo brings it back", terminal.enter("quit"))
+        os.kill(terminal.child, signal.SIGHUP)
+        self.assertEqual(terminal.ended(), 1)
+        terminal = self.terminal(self.folder)
+        self.assertIn("(plural): rescue brings them back", terminal.got())
+        self.assertIn("3 words, 3 split", terminal.enter("rescue"))
+        terminal.enter("undo", "redo")
+        self.assertIn("The edits that you typed are in no file", terminal.enter("quit"))
 
     def test_a_reply_that_is_a_command(self):
         terminal = self.begin()

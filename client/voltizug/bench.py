@@ -14,7 +14,8 @@ GONE, QUIET = 1, 0.05
 
 class Edit(NamedTuple):
     """What an edit did: what differs from the mark now, and what it changed itself, if that may differ. `step` is what undo or redo did; `aside` are
-    the names of the typed edits that a reload replaced; `note` is a key of words.NOTES; `pairs` are the figures of the families before and now."""
+    the names of the typed edits that a reload replaced, with the file that has them if undo does not; `note` is a key of words.NOTES; `pairs` are the
+    figures of the families before and now."""
 
     command: str
     reply: Reply
@@ -24,6 +25,7 @@ class Edit(NamedTuple):
     aside: Optional[Tuple[str, ...]] = None
     note: str = ""
     pairs: Tuple[Any, ...] = ()
+    aside_path: str = ""
 
 
 class Stage:
@@ -105,6 +107,8 @@ class Bench(Stage):
         self.read_texts, self.replaced = set(), {}  # type: Set[int], Dict[int, bytes]
         # The texts that a reload replaced, with the names of their edits; the words that were added; what differs from the mark; families.
         self.aside, self.added, self.changes = [], [], []  # type: List[Tuple[bytes, Tuple[str, ...]]], List[str], List[Any]
+        # The file that has the last of these texts if undo does not; what was rescued and is taken back, with the names of its edits.
+        self.aside_path, self.undone = "", (b"", ())  # type: str, Tuple[bytes, Sequence[str]]
         self.families, self.pairs = "", ()  # type: str, Tuple[Any, ...]
 
     # Beginning and ending
@@ -262,10 +266,15 @@ class Bench(Stage):
         self.changes = rows.read("changes", changes.lines)
         found = pairs_of(*pairs)
         figures, self.pairs = (*(self.pairs or found), *found) if found else (), found or self.pairs
+        note = self.note_on(word, before, had_fault, done == history)
+        aside = self.note_text(word, before, history, done)
+        # (of blanks and comments alone the program makes no step)
+        if aside is not None:
+            self.aside_path = os.path.join(self.kept.room, "aside") if done == history else ""
         return edit._replace(
             changes=self.changes, own=rows.between(before_it[0], stems.lines) if before_it and stems.is_done else None,
             pairs=figures, step=step if word in ("undo", "redo") else None,
-            note=self.note_on(word, before, had_fault, done == history), aside=self.note_text(word, before, history, done),
+            note=note, aside=aside, aside_path=self.aside_path if aside is not None else "",
         )
 
     def note_on(self, word: str, before: Moment, had_fault: bool, is_not_held: bool) -> str:
@@ -292,6 +301,10 @@ class Bench(Stage):
         if word == "undo" and before.text != text:
             # (what was replaced and undo takes back, the author drops)
             self.aside = [(other, names) for other, names in self.aside if other != before.text]
+        if word == "undo" and hash(before.text) == self.rescued and before.text != text:
+            self.undone = before.text, self.of_rescued
+        elif word != "undo" and self.undone[0] in (text, before.text):
+            self.undone = b"", ()
         if word == "reload":
             self.note_file()
             names, was_saved = self.names(before.text, history), hash(before.text) in self.replaced
@@ -322,6 +335,10 @@ class Bench(Stage):
             self.kept.keep("text.base", self.base or b"")
             self.kept.keep("text", text)
             self.kept.note("about", ["text", *(self.names(text, history) or ["a part of the script"])])
+        elif self.undone[0] and not aside:
+            self.kept.keep("text.base", self.bases.get(self.rescued) or b"")
+            self.kept.keep("text", self.undone[0])
+            self.kept.note("about", ["text", *self.undone[1]])
         else:
             self.kept.note("about", ["aside", *aside] if aside else [])
 

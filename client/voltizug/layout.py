@@ -164,8 +164,8 @@ def summary(edit: Edit) -> str:
     if edit.command in ("undo", "redo"):
         text = "%s%s; %s" % ("taken back" if edit.command == "undo" else "made again", ": " + short(step_of(edit.step)) if edit.step else "", text)
     if edit.aside is not None:
-        names = ", ".join(map(short, edit.aside)) or "what you typed"
-        text += "; replaced: %s (undo brings %s back)" % (names, "it" if len(edit.aside) < 2 else "them")
+        names, it = ", ".join(map(short, edit.aside)) or "what you typed", "it" if len(edit.aside) < 2 else "them"
+        text += "; replaced: %s (%s brings %s back)" % (names, "replace " + edit.aside_path if edit.aside_path else "undo", it)
     return text
 
 

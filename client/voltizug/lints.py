@@ -9,7 +9,7 @@ from .bench import Bench
 from .conditions import BODY
 from .layout import counted, in_words, named, short
 from .names import Names
-from .near import composed
+from .near import composed, odd_letter
 from .places import LARGEST, Places
 from .rows import Outcome, Token
 from .words import MISREAD, in_shell
@@ -297,6 +297,23 @@ def idle_amongs(script: Script) -> Iterable[Lint]:
                     yield token.start, what
 
 
+def sets(before: Token, after: Token) -> bool:
+    """Whether there is an assignment, by the tokens around its name."""
+    return before.text == "$" and after.text in ("=", "+=", "-=", "*=", "/=")
+
+
+def idle_tests(script: Script) -> Iterable[Lint]:
+    """A routine that changes nothing as the whole command of a string, if other strings of the among take the slice."""
+    acting = [name for name, body in script.bodies.items() if any(sets(before, after) for before, after in zip(body, body[2:]))]
+    quiet = script.bodies.keys() - script.doing(*CHANGING, *CHANGING_TEXT, *MOVING, "=>", "set", "unset", "[", "]") - reached(acting, script.callers)
+    for body in script.bodies.values():
+        for begin in [i + 2 for i, token in enumerate(body[:-1]) if token.text == "among" and body[i + 1].text == "("]:
+            part = body[begin : end_of(body, begin - 1)]
+            for before, token, name, after in zip(part, part[1:], part[2:], part[3:]):
+                if before.kind == "literal" and (token.text, after.text) == ("(", ")") and name.text in quiet and any(other.text in TAKING for other in part):
+                    yield name.start, "({0}) only tests: {1} {0} is meant, perhaps, which makes it a condition".format(name.text, short(before.text))
+
+
 def is_test(body: Sequence[Token], at: int) -> bool:
     """Whether it may count what a call signals: no `do` is before it or before a bracket that it ends, and more comes after it."""
     begin = end = at
@@ -316,7 +333,7 @@ def unset_integers(script: Script) -> Iterable[Lint]:
     running = reached([name for name in script.bodies if kinds.get(name) == "external"], script.calls)
     for name, body in script.bodies.items():
         for before, token, after in zip(body, body[1:], [*body[2:], *body[:1]]):
-            if before.text == "setmark" or before.text == "$" and after.text in ("=", "+=", "-=", "*=", "/="):
+            if before.text == "setmark" or sets(before, after):
                 setters.setdefault(token.text, []).append(name)
     first = {token.text: token for name in reversed(list(script.bodies)) if name in running for token in reversed(script.bodies[name])}
     for integer in [name for name, kind in kinds.items() if kind == "integer" and name in first and running.isdisjoint(setters.get(name, []))]:
@@ -435,11 +452,12 @@ def strange_words(script: Script, outcomes: Sequence[Outcome], path: str) -> Lis
     empty = [row.word for row in outcomes if (row.kind, row.stem) == ("stem", "")]
     there = {row.word for row in outcomes}
     twice = [word for word in there if not word.isascii() and composed(word) in there and word != composed(word) and len(composed(word)) >= len(word)]
+    mixed = [row.word for row in outcomes if odd_letter(row.word)]
     many = "{:,} of {:,} words {} {}, as '{}'{}"
     return [many.format(len(found), len(outcomes), "has" if len(found) == 1 else "have", what, short(found[0]), then) for found, what, then in (
         (large, "capitals", ", and no string of an among has one. For small letters: LC_ALL=C.UTF-8 sed 's/.*/\\L&/' %s > NEW" % path),
         (signed if 2 * len(signed) > len(outcomes) else [], "a sign that is no letter", ", and no literal has it"), (empty, "the empty stem", ""),
-        (sorted(twice), "another form among the words", ": as NFC both are one word"),
+        (mixed, "letters of two alphabets", ": %s" % odd_letter(mixed[0]) if mixed else ""), (sorted(twice), "another form among the words", ": as NFC both are one word"),
     ) if found]
 
 
@@ -449,7 +467,7 @@ def lints(bench: Bench, has_all: bool = False) -> List[str]:
         return ["%s has more than {:,} bytes, and is not looked at".format(LARGEST) % named(bench.script)] if has_all else []
     script, sees_words = Script(bench.places()), has_all or bench.size <= MANY
     outcomes = bench.outcomes() if sees_words else []
-    looks = (misused, unset_slices, bare_commands, plain_braces, twice_defined, early_takings, late_takings, half_done, idle_amongs, unset_integers, undefined)
+    looks = (misused, unset_slices, bare_commands, plain_braces, twice_defined, early_takings, late_takings, half_done, idle_amongs, idle_tests, unset_integers, undefined)
     found = [lint for look in looks for lint in look(script)]
     sees_runs = has_all or int(bench.program.now.limit) * sum(row[1:] == ("refused", "Steps") for row in outcomes) <= COSTLY
     found += stopping_calls(script, bench, [start for start, _ in found]) if sees_words and sees_runs else []

@@ -192,12 +192,12 @@ def returned(calls: List[Call], is_true: bool, places: Places) -> List[Line]:
 
 
 def history(found: Sequence[Any]) -> List[str]:
-    """The edits with their numbers; equal ones that follow each other are one line."""
-    lines, number = [], 1
-    for (kind, step), equal in groupby((row.kind, step_of(row)) for row in found):
-        count = len(list(equal))
-        lines.append("  %2d  %-10s  %s%s" % (number, FIGURES[kind], named(step), "   .. {:,} times".format(count) if count > 1 else ""))
-        number += count
+    """The edits with their numbers; of more than three equal ones that follow each other, as of many saves, there is one line."""
+    lines = []  # type: List[str]
+    for (kind, step), equal in groupby(enumerate(found, 1), lambda one: (one[1].kind, step_of(one[1]))):
+        numbers = [number for number, _ in equal]
+        shown = ["  %2d  %-10s  %s" % (number, FIGURES[kind], named(step)) for number in numbers]
+        lines += shown if len(shown) < 4 else [shown[0] + "   .. {:,} times".format(len(shown))]
     return lines
 
 

@@ -10,7 +10,7 @@ from .bench import Bench, Stage
 from .commands import COMMANDS, NAMED, OPEN_BLOCKS, STRANGE
 from .kept import is_same, read_file, read_lines
 from .layout import counted, in_words, named, short
-from .near import composed, folded, meant
+from .near import composed, folded, meant, near, odd_letter
 from .places import Places
 from .options import CALLED
 from .program import Reply, encoded
@@ -136,7 +136,13 @@ def absent(line: str, bench: Stage) -> str:
     # (an editor, which has a Stage, adds no words)
     ways += ['"add {0}" adds it'] * (isinstance(bench, Bench) and not same and command in ("class", "trace") and " " not in word)
     then = " %s." % ", ".join(ways).format(short(word)) if ways and word == word.strip() else ""
-    return "%s is not in the vocabulary.%s%s" % (in_quotes(word), question, then)
+    return "%s is not in the vocabulary.%s%s%s" % (in_quotes(word), question, odd_in(word), then)
+
+
+def odd_in(word: str) -> str:
+    """Returns the sentence on a letter of a word that is of another alphabet; nothing if there is none."""
+    odd = odd_letter(word)
+    return " It has %s." % odd if odd else ""
 
 
 def misspelt(word: str, bench: Bench) -> str:
@@ -144,13 +150,16 @@ def misspelt(word: str, bench: Bench) -> str:
     if not bench.size or bench.known("class " + word) is not None:
         return ""
     is_many = " It was run as one word, with a blank in it." * (" " in word.strip())
-    return "%s is not in the vocabulary.%s" % (in_quotes(word, " " in word), is_many or meant(word, bench.by_word()))
+    question = is_many or meant(word, bench.by_word())
+    return "%s is not in the vocabulary.%s%s" % (in_quotes(word, " " in word), question, odd_in(word))
 
 
 def no_class(line: str, bench: Stage) -> str:
     stem = line.partition(" ")[2]
-    how = "It is a word: why %s shows its stem." if stem in bench.by_word() else "find %s shows the words and stems that have it in them."
-    return ("No word has the stem %s. " + how) % (in_quotes(stem), short(stem)) if stem else "stem needs a stem: stem STEM. No word has the empty one."
+    how = " It is a word: why %s shows its stem." % short(stem) if stem in bench.by_word() else ""
+    how = how or " find %s shows the words and stems that have it in them." % short(stem) * bool(bench.known("find " + stem))
+    how = how or meant(stem, dict.fromkeys(row.stem for row in bench.outcomes() if row.kind == "stem"))
+    return "No word has the stem %s.%s" % (in_quotes(stem), how) if stem else "stem needs a stem: stem STEM. No word has the empty one."
 
 
 def lines_and_words(path: str, count: int) -> str:
@@ -290,7 +299,8 @@ def unreadable(path: str) -> str:
     except (OSError, ValueError) as why:
         code, (folder, name) = getattr(why, "errno", errno.ENOENT), os.path.split(path)
         others = os.listdir(folder or ".") if code == errno.ENOENT and os.path.isdir(folder or ".") else []
-        question = meant(name, others)
+        found = [os.path.join(folder, other) for other in near(name, others)]
+        question = " Did you mean %s?" % in_words(found, "or") if found else meant(name, others)
         return reasons.get(code, os.strerror(code)) + ("." + question if question else "")
 
 

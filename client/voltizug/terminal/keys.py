@@ -204,17 +204,13 @@ class Editor:
         return line
 
     def drop_pasted(self) -> int:
-        """Drops the lines that came with a refused one; returns how many. If the terminal tells no paste, all up to a single point is dropped."""
-        count, line, is_ended = len(self.pending), b"", False
-        while not is_ended and select.select([0], [], [], PAUSE)[0]:
-            key = os.read(0, 1)
-            if not key:
+        """Drops the lines that came with a refused one; returns how many. If the terminal tells no paste, all that comes without a pause is dropped."""
+        count = len(self.pending)
+        while select.select([0], [], [], PAUSE)[0]:
+            keys = os.read(0, 1024)
+            if not keys:
                 break
-            # (of a line no more is needed than shows whether it is a point)
-            is_end, line = key in b"\r\n", (line + key)[-100:]
-            count += is_end
-            is_ended = is_end and line.strip() == b"."
-            line = b"" if is_end else line
+            count += sum(keys.count(end) for end in (b"\r", b"\n"))
         self.pending.clear()
         return count
 

@@ -54,6 +54,9 @@ class Terminal(Desk):
         command, _, argument = line.partition(" ")
         if (line or "Enter") != self.doubted:
             self.doubted = ""
+        if not line and (self.editor.pending or self.editor.has_key()):
+            # (an empty line among others that were pasted is no Enter)
+            return True
         if line == "quit":
             return not self.may_end()
         if line.startswith("#"):
@@ -100,7 +103,7 @@ class Terminal(Desk):
             return
         line = "families " + self.bench.families if line == "families" else line
         # (a string may be typed as it is shown)
-        line = re.sub(r"\A(uses \S+ [0-9]+) '(.*)'\Z", r"\1 \2", line)
+        line = re.sub(r"\A(uses \S+ [0-9]+) (['\"])(.*)\2\Z", r"\1 \3", line)
         argument = line.partition(" ")[2]
         reply = self.bench.ask({"changes": "changes", "tests": "events " + argument}.get(name, ASKED.get(line, line)))
         if not self.is_done(reply, line):
@@ -428,7 +431,10 @@ class Terminal(Desk):
         if bench.is_unsaved(bench.program.now.text):
             doubts.insert(0, "The edits that you typed are in no file: save FILE keeps them, quit again drops them.")
         elif aside:
-            doubts.insert(0, "A reload replaced what you typed (%s), and no file has all of it: undo, once or more, goes back to it, quit again drops it." % aside)
+            how = "replace " + bench.aside_path if bench.aside_path else "undo, once or more,"
+            doubts.insert(0, "A reload replaced what you typed (%s), and no file has all of it: %s goes back to it, quit again drops it." % (aside, how))
+        elif bench.undone[0]:
+            doubts.insert(0, "What was rescued is taken back (%s), and no file has it: redo brings it back, quit again drops it." % in_words(bench.undone[1], "and", 5))
         return self.is_sure("quit", *doubts)
 
     def is_sure(self, line: str, *doubts: str) -> bool:
