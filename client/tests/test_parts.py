@@ -215,9 +215,9 @@ class Others(Case):
 
     def test_the_encoding_of_a_file(self):
         """By its bytes: words of Icelandic, Czech, Russian and Greek, and marks of UTF-16 and UTF-32."""
-        other = "its encoding is ENCODING, such as cp1250 or koi8-r: iconv -f ENCODING"
+        other = "its encoding is ENCODING, such as latin1, cp1250 or koi8-r: iconv -f ENCODING"
         for data, wanted in (
-            ("hús\nblóð\nærð\n".encode("latin1"), "it is Latin-1: iconv -f latin1"), ("k\u016f\u0148\n\u017eivot\n".encode("iso-8859-2"), other),
+            ("hús\nblóð\nærð\n".encode("latin1"), "it is Latin-1: iconv -f latin1"), ("áíóúý\nár\nið\n".encode("latin1"), "it is Latin-1: iconv -f latin1"), ("k\u016f\u0148\n\u017eivot\n".encode("iso-8859-2"), other),
             ("\u0434\u043e\u043c\n".encode("koi8-r"), other), ("\u03b8\u03b5\u03cc\u03c2\n".encode("iso-8859-7"), other),
             ("hús\n".encode("cp437"), other), ("externals ( stem ) // \u0434\u043e\u043c\n".encode("cp1251"), other),
             ("cat\n".encode("utf-16-le"), "it is UTF-16LE: iconv -f utf-16le"), ("cat\n".encode("utf-16-be"), "it is UTF-16BE: iconv -f utf-16be"),

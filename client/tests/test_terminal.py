@@ -193,7 +193,7 @@ class Sessions(Case):
         """With the warning; if that was given before, with the refusal."""
         terminal = self.begin()
         write(os.path.join(self.folder, "my.words"), "cats\nk\u016f\u0148\nk\u016f\u0148e\n".encode("iso-8859-2"))
-        advice = "If its encoding is ENCODING, such as cp1250 or koi8-r: iconv -f ENCODING -t utf-8 my.words > NEW. Then, if NEW is right: mv NEW my.words"
+        advice = "If its encoding is ENCODING, such as latin1, cp1250 or koi8-r: iconv -f ENCODING -t utf-8 my.words > NEW. Then, if NEW is right: mv NEW my.words"
         self.assertEqual(terminal.enter("words").split("\n"), ["my.words:2: not UTF-8 (and 1 more line). " + advice, "Nothing changed."])
         self.assertEqual(terminal.enter("words"), "my.words is not UTF-8. " + advice)
 

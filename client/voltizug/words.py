@@ -311,11 +311,11 @@ def in_shell(path: str) -> str:
 def converting(path: str) -> str:
     """Returns how a file that is not UTF-8 becomes it, by its bytes."""
     data, name = read_file(path) or b"", in_shell(path)
-    # (in Cyrillic and Greek such letters come one after another, and some of other encodings are signs in Latin-1)
+    # (in Cyrillic and Greek such letters come one after another, but in a list of vowels, too; some of other encodings are signs in Latin-1)
     runs = re.findall("[\udc80-\udcff]+", data.decode("utf-8", "surrogateescape"))
     beyond, mark = encoded("".join(runs)).decode("latin1"), re.match(b"(\xff\xfe\0\0|\0\0\xfe\xff)|\xff\xfe|\xfe\xff", data)
-    is_latin = beyond.isalpha() and len(beyond) < 2 * len(runs)
-    code, what = ("latin1", "it is Latin-1") if is_latin else ("ENCODING", "its encoding is ENCODING, such as cp1250 or koi8-r")
+    is_latin = beyond.isalpha() and sum(len(run) > 1 for run in runs) * 2 < len(runs)
+    code, what = ("latin1", "it is Latin-1") if is_latin else ("ENCODING", "its encoding is ENCODING, such as latin1, cp1250 or koi8-r")
     if mark or 4 * data.count(0) > len(data):
         code = ("utf-32" if mark[1] else "utf-16") if mark else "utf-16le" if data[::2].count(0) < data[1::2].count(0) else "utf-16be"
         what = "it is " + code.upper()
