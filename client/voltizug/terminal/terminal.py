@@ -54,9 +54,6 @@ class Terminal(Desk):
         command, _, argument = line.partition(" ")
         if (line or "Enter") != self.doubted:
             self.doubted = ""
-        if not line and (self.editor.pending or self.editor.has_key()):
-            # (an empty line among others that were pasted is no Enter)
-            return True
         if line == "quit":
             return not self.may_end()
         if line.startswith("#"):
@@ -70,12 +67,7 @@ class Terminal(Desk):
         elif line == "families" and self.bench.families and not self.editor.pending:
             self.ask(line)
         elif line in ("", "reload", "undo", "redo") or command in ("limit", "replace") and argument:
-            # (Enter is for what was saved)
-            is_same = self.bench.script not in self.bench.saved() and self.bench.refused_text is None and os.path.exists(self.bench.script)
-            drops = not line and is_same and self.bench.is_unsaved(self.bench.program.now.text)
-            what = "has a change that the current script lacks: Enter again reads it and" if self.bench.is_older else "has not changed: Enter again"
-            if self.is_sure(line or "Enter", "%s %s drops what you typed." % (short(self.bench.script), what) if drops else ""):
-                self.edit([line or "reload"])
+            self.take_step(line)
         elif command in BLOCKS or line in OPEN_BLOCKS:
             self.read_block(line)
         elif definition := DEFINITION.match(line):
@@ -92,6 +84,16 @@ class Terminal(Desk):
         else:
             self.ask(line)
         return True
+
+    def take_step(self, line: str) -> None:
+        """Makes an edit that has no block. Enter is for what was saved: if nothing was, it asks before it drops what was typed."""
+        is_same = self.bench.script not in self.bench.saved() and self.bench.refused_text is None and os.path.exists(self.bench.script)
+        drops = not line and is_same and self.bench.is_unsaved(self.bench.program.now.text)
+        what = "has a change that the current script lacks: Enter again reads it and" if self.bench.is_older else "has not changed: Enter again"
+        # (an empty line among others that were pasted is no Enter)
+        is_pasted = drops and (self.editor.pending or self.editor.has_key())
+        if not is_pasted and self.is_sure(line or "Enter", "%s %s drops what you typed." % (short(self.bench.script), what) if drops else ""):
+            self.edit([line or "reload"])
 
     def ask(self, line: str) -> None:
         """Has a command done, and shows what it replies, or writes that to a file."""
