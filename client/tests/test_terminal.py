@@ -944,8 +944,17 @@ class Traps(Case):
         terminal = self.terminal(self.folder)
         self.assertIn("(plural): rescue brings them back", terminal.got())
         self.assertIn("3 words, 3 split", terminal.enter("rescue"))
-        terminal.enter("undo", "redo")
+        self.assertIn("taken back: plural; ", terminal.enter("undo"))
+        self.assertIn("made again: plural; ", terminal.enter("redo"))
         self.assertIn("The edits that you typed are in no file", terminal.enter("quit"))
+
+    def test_undo_after_a_word_was_added(self):
+        terminal = self.begin()
+        terminal.enter("routine plural", "true", ".", "add hundo")
+        doubt = "undo takes back edits of the script, and no words: remove hundo does that. undo again takes back the last edit."
+        self.assertEqual(terminal.enter("undo"), doubt)
+        self.assertIn("taken back: routine plural", terminal.enter("undo"))
+        self.assertIn("made again", terminal.enter("remove hundo", "redo"))
 
     def test_a_reply_that_is_a_command(self):
         terminal = self.begin()

@@ -15,7 +15,7 @@ GONE, QUIET = 1, 0.05
 class Edit(NamedTuple):
     """What an edit did: what differs from the mark now, and what it changed itself, if that may differ. `step` is what undo or redo did; `aside` are
     the names of the typed edits that a reload replaced, with the file that has them if undo does not; `note` is a key of words.NOTES; `pairs` are the
-    figures of the families before and now."""
+    figures of the families before and now; `step_names` are the edits that were rescued, if undo or redo did that."""
 
     command: str
     reply: Reply
@@ -26,6 +26,7 @@ class Edit(NamedTuple):
     note: str = ""
     pairs: Tuple[Any, ...] = ()
     aside_path: str = ""
+    step_names: Sequence[str] = ()
 
 
 class Stage:
@@ -107,6 +108,8 @@ class Bench(Stage):
         self.read_texts, self.replaced = set(), {}  # type: Set[int], Dict[int, bytes]
         # The texts that a reload replaced, with the names of their edits; the words that were added; what differs from the mark; families.
         self.aside, self.added, self.changes = [], [], []  # type: List[Tuple[bytes, Tuple[str, ...]]], List[str], List[Any]
+        # The last command if it added a word or took one out.
+        self.last_words = ""
         # The file that has the last of these texts if undo does not; what was rescued and is taken back, with the names of its edits.
         self.aside_path, self.undone = "", (b"", ())  # type: str, Tuple[bytes, Sequence[str]]
         self.families, self.pairs = "", ()  # type: str, Tuple[Any, ...]
@@ -181,6 +184,7 @@ class Bench(Stage):
     def note(self, line: str, reply: Reply) -> None:
         """Notes an accepted command that is no edit."""
         program, (word, _, argument) = self.program, line.partition(" ")
+        self.last_words = line if word in ("add", "remove") else self.last_words
         if word in ("add", "remove"):
             program.now = program.now._replace(words=(*program.now.words, line))
             self.added = [*self.added, argument] if word == "add" else [other for other in self.added if other != argument]
@@ -230,6 +234,7 @@ class Bench(Stage):
         history, *stems, reply = self.program.ask_each([["history"], *[["stems"]] * is_asked, lines])
         if reply.is_done:
             self.on_accepted()
+            self.last_words = ""
             edit = self.edited(Edit(word, reply), lines, rows.read("history", history.lines), had_fault, [reply.lines for reply in stems])
         else:
             edit = Edit(word, self.settled(reply), self.changes)
@@ -275,6 +280,7 @@ class Bench(Stage):
             changes=self.changes, own=rows.between(before_it[0], stems.lines) if before_it and stems.is_done else None,
             pairs=figures, step=step if word in ("undo", "redo") else None,
             note=note, aside=aside, aside_path=self.aside_path if aside is not None else "",
+            step_names=self.of_rescued if word in ("undo", "redo") and self.rescued == hash((before if word == "undo" else program.now).text) else (),
         )
 
     def note_on(self, word: str, before: Moment, had_fault: bool, is_not_held: bool) -> str:

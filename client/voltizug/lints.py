@@ -252,8 +252,11 @@ def late_takings(script: Script) -> Iterable[Lint]:
 
 
 def early_takings(script: Script) -> Iterable[Lint]:
-    """A command that takes the slice between a [ and the ] after it."""
-    for body in script.bodies.values():
+    """A command that takes the slice between a [ and the ] after it, or before the first [ if nothing that calls the routine has one."""
+    for name, body in script.bodies.items():
+        first = next((token for token in body if token.text in TAKING[:2] or token.text == "["), None)
+        if first and first.text != "[" and "[" in script.texts[name] and not (reached([name], script.callers) - {name}) & {*script.having("[")}:
+            yield first.start, "this %s comes before the [ of %s: it takes an earlier slice, or an empty one" % (first.text, name)
         is_open, ends = False, [i for i, token in enumerate(body) if token.text == "]"]
         for i, token in enumerate(body):
             is_open = token.text == "[" or is_open and token.text != "]"
@@ -471,10 +474,10 @@ def lints(bench: Bench, has_all: bool = False) -> List[str]:
     found = [lint for look in looks for lint in look(script)]
     sees_runs = has_all or int(bench.program.now.limit) * sum(row[1:] == ("refused", "Steps") for row in outcomes) <= COSTLY
     found += stopping_calls(script, bench, [start for start, _ in found]) if sees_words and sees_runs else []
-    found += strange_strings(script, outcomes) if has_all or bench.size >= FEW else []
-    found += put_blanks(script, outcomes)
-    # (of words in capitals, or with columns of a table, no string says where it is)
+    # (of words in capitals, or with columns of a table, a warning speaks, and no string fits)
     is_list = 2 * sum(row.word != row.word.lower() or "\t" in row.word for row in outcomes) <= len(outcomes)
+    found += strange_strings(script, outcomes) if is_list and (has_all or bench.size >= FEW) else []
+    found += put_blanks(script, outcomes)
     found += wrong_ways(script, bench, outcomes) if outcomes and script.places.entries and sees_runs and is_list else []
     beyond = [token for token in script.tokens if has_all and token.kind == "literal" and not token.text.isascii()]
     others = " (and {})".format(counted(len(beyond) - 1, "more literal")) if len(beyond) > 1 else ""

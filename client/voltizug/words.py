@@ -36,7 +36,7 @@ MISREAD = re.compile("[\u00c2-\u00df][\u0080-\u00bf]")
 # Faults of the words, and what is said of them.
 OF_WORDS: Dict[int, str] = {
     43: "{name} has a word of more than 255 characters.",
-    44: "{name} has more than 100,000 words. To take some of them: shuf -n 100000 {quoted} > NEW",
+    44: "{name} has more than 100,000 words. To take some of them: shuf -n 100000 {quoted} > NEW. Then: mv NEW {quoted}",
     72: "{name} has a line of more than 65,536 bytes.",
     75: "{name} is not UTF-8.",
 }
@@ -248,7 +248,7 @@ def strange(line: str, table: Sequence[Tuple[str, str]] = STRANGE) -> str:
 def no_command(line: str) -> str:
     command = line.partition(" ")[0]
     longer = [name for name in COMMANDS if name.startswith(command.casefold())] if command else []
-    question = meant(command, COMMANDS) or (" Did you mean %s?" % in_words(longer, "or") if 0 < len(longer) < 4 else "")
+    question = meant(command, COMMANDS if command.isascii() else ()) or (" Did you mean %s?" % in_words(longer, "or") if 0 < len(longer) < 4 else "")
     return strange(line) or "%s is not a command.%s help lists the commands." % (short(command or line.strip()), question)
 
 

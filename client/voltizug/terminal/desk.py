@@ -78,6 +78,8 @@ class Desk:
         misplaced = self.misplaced() if 0 < code < LEAST else ""
         say(misplaced)
         can_wait = (0 < code < LEAST or code in words.OF_WORDS) and not misplaced and all(map(os.path.isfile, self.paths))
+        if not os.path.lexists(bench.script) and layout.named(bench.script) == bench.script:
+            say("For a new script make an empty one: touch %s" % words.in_shell(bench.script))
         if not can_wait and not self.has_waited:
             return False
         self.has_waited = True
@@ -215,12 +217,14 @@ class Desk:
         elif code == 48 and not reply.said:
             # (a fault of the whole script has no line)
             said = "%s. %s" % (name, said)
-        found, most = faults.without_following(self.bench.read("faults"))[1:] if code == 48 else [], max(1, self.screen.size().lines // 3)
+        # (a name that is not declared is there once)
+        found = list({row.sentence: row for row in reversed(faults.without_following(self.bench.read("faults")) if code == 48 else [])}.values())[-2::-1]
+        most = max(1, self.screen.size().lines // 3)
         others = ["also %s:%s: %s" % row[5:8] if row.line else "also: " + row.sentence for row in found[:most]]
         if len(lines) > 2 and any(re.search(r":\d+:\d+: \. can only be in", line) for line in reply.said):
             said += " A point that ends a block is on a line of its own."
         where = self.correction(self.bench.script) if (lines[0], code) == ("reload", BROKEN_OFF[0]) else ""
-        self.screen.say(said, where, *others, "{:,} more faults".format(len(found) - most) if len(found) > most else "")
+        self.screen.say(*others, "{:,} more faults".format(len(found) - most) if len(found) > most else "", said, where)
         self.nonsense = self.nonsense + 1 if code == 52 and self.editor.has_key() else 0
         # (of a script that was pasted one line is enough)
         if self.editor.pending or len(lines) > 1 or self.nonsense >= (1 if re.match("%s|%s" % (COMMENT, DECLARATION), lines[0]) else NONSENSE):

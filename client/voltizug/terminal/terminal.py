@@ -88,7 +88,11 @@ class Terminal(Replies):
         what = "has a change that the current script lacks: Enter again reads it and" if self.bench.is_older else "has not changed: Enter again"
         # (an empty line among others that were pasted is no Enter)
         is_pasted = drops and (self.editor.pending or self.editor.has_key())
-        if not is_pasted and self.is_sure(line or "Enter", "%s %s drops what you typed." % (short(self.bench.script), what) if drops else ""):
+        doubt = "%s %s drops what you typed." % (short(self.bench.script), what) if drops else ""
+        command, _, word = self.bench.last_words.partition(" ")
+        if line == "undo" and command and self.bench.read("history"):
+            doubt = "undo takes back edits of the script, and no words: %s %s does that. undo again takes back the last edit." % ("remove" if command == "add" else "add", short(word))
+        if not is_pasted and self.is_sure(line or "Enter", doubt):
             self.edit([line or "reload"])
 
     def ask(self, line: str) -> None:
