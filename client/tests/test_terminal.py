@@ -943,10 +943,18 @@ class Traps(Case):
         self.assertEqual(terminal.ended(), 1)
         terminal = self.terminal(self.folder)
         self.assertIn("(plural): rescue brings them back", terminal.got())
-        self.assertIn("3 words, 3 split", terminal.enter("rescue"))
+        self.assertIn("brought back: plural; 3 words, 3 split", terminal.enter("rescue"))
         self.assertIn("taken back: plural; ", terminal.enter("undo"))
         self.assertIn("made again: plural; ", terminal.enter("redo"))
         self.assertIn("The edits that you typed are in no file", terminal.enter("quit"))
+
+    def test_words_that_came_are_no_change_of_an_edit(self):
+        terminal = self.begin("my.sbl", "my.words")
+        terminal.save(WORDS + "hundo\n", "my.words")
+        self.assertIn("1 added: hundo", terminal.enter("words"))
+        shown = terminal.enter("limit 5000")
+        self.assertNotIn("hundo", shown)
+        self.assertIn("1 word added since the mark (this edit changed none)", shown)
 
     def test_undo_after_a_word_was_added(self):
         terminal = self.begin()

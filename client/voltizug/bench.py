@@ -15,7 +15,7 @@ GONE, QUIET = 1, 0.05
 class Edit(NamedTuple):
     """What an edit did: what differs from the mark now, and what it changed itself, if that may differ. `step` is what undo or redo did; `aside` are
     the names of the typed edits that a reload replaced, with the file that has them if undo does not; `note` is a key of words.NOTES; `pairs` are the
-    figures of the families before and now; `step_names` are the edits that were rescued, if undo or redo did that."""
+    figures of the families before and now; `step_names` are the edits that were rescued, if this is about them."""
 
     command: str
     reply: Reply
@@ -192,6 +192,8 @@ class Bench(Stage):
             program.now = program.now._replace(words=() if word == "words" else program.now.words)
             self.look(self.words or "")
             self.words_text, self.added = hash(read_file(self.words)), []
+            # (words that came are no changes of the next edit)
+            self.changes = self.read("changes") if word == "words" else self.changes
         elif word == "mark":
             program.marked = program.now._replace(stems=os.path.realpath(argument) if argument else "")
             self.changes = self.read("changes") if argument else []
@@ -280,7 +282,7 @@ class Bench(Stage):
             changes=self.changes, own=rows.between(before_it[0], stems.lines) if before_it and stems.is_done else None,
             pairs=figures, step=step if word in ("undo", "redo") else None,
             note=note, aside=aside, aside_path=self.aside_path if aside is not None else "",
-            step_names=self.of_rescued if word in ("undo", "redo") and self.rescued == hash((before if word == "undo" else program.now).text) else (),
+            step_names=self.of_rescued if word in ("undo", "redo", "replace") and self.rescued == hash((before if word == "undo" else program.now).text) else (),
         )
 
     def note_on(self, word: str, before: Moment, had_fault: bool, is_not_held: bool) -> str:

@@ -163,6 +163,8 @@ def summary(edit: Edit) -> str:
         text = "this %s: %s; %s" % (edit.command if edit.step else "edit", figures(edit.own, ""), text)
     if edit.command in ("undo", "redo"):
         text = "%s%s; %s" % ("taken back" if edit.command == "undo" else "made again", ": " + (", ".join(map(short, edit.step_names)) or short(step_of(edit.step))) if edit.step else "", text)
+    elif edit.step_names:
+        text = "brought back: %s; %s" % (", ".join(map(short, edit.step_names)), text)
     if edit.aside is not None:
         names, it = ", ".join(map(short, edit.aside)) or "what you typed", "it" if len(edit.aside) < 2 else "them"
         text += "; replaced: %s (%s brings %s back)" % (names, "replace " + edit.aside_path if edit.aside_path else "undo", it)

@@ -253,10 +253,12 @@ def late_takings(script: Script) -> Iterable[Lint]:
 
 def early_takings(script: Script) -> Iterable[Lint]:
     """A command that takes the slice between a [ and the ] after it, or before the first [ if nothing that calls the routine has one."""
+    slicing = script.doing("[")
+    what = "this {} comes before each [ in {} and what it calls: it takes an earlier slice, or an empty one"
     for name, body in script.bodies.items():
-        first = next((token for token in body if token.text in TAKING[:2] or token.text == "["), None)
-        if first and first.text != "[" and "[" in script.texts[name] and not (reached([name], script.callers) - {name}) & {*script.having("[")}:
-            yield first.start, "this %s comes before the [ of %s: it takes an earlier slice, or an empty one" % (first.text, name)
+        first = next((token for token in body if token.text in (*TAKING[:2], "[") or token.text in slicing), None)
+        if first and first.text in TAKING[:2] and name in slicing and not (reached([name], script.callers) - {name}) & {*script.having("[")}:
+            yield first.start, what.format(first.text, name)
         is_open, ends = False, [i for i, token in enumerate(body) if token.text == "]"]
         for i, token in enumerate(body):
             is_open = token.text == "[" or is_open and token.text != "]"

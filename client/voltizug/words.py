@@ -36,7 +36,7 @@ MISREAD = re.compile("[\u00c2-\u00df][\u0080-\u00bf]")
 # Faults of the words, and what is said of them.
 OF_WORDS: Dict[int, str] = {
     43: "{name} has a word of more than 255 characters.",
-    44: "{name} has more than 100,000 words. To take some of them: shuf -n 100000 {quoted} > NEW. Then: mv NEW {quoted}",
+    44: "{name} has more than 100,000 words. To work with some of them: shuf -n 100000 {quoted} > NEW, and start with NEW.",
     72: "{name} has a line of more than 65,536 bytes.",
     75: "{name} is not UTF-8.",
 }

@@ -50,6 +50,8 @@ class Terminal(Replies):
         command, _, argument = line.partition(" ")
         if (line or "Enter") != self.doubted:
             self.doubted = ""
+        if command not in ("add", "remove", "undo"):
+            self.bench.last_words = ""
         if line == "quit":
             return not self.may_end()
         if line.startswith("#"):
