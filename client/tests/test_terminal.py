@@ -963,6 +963,8 @@ class Traps(Case):
         self.assertEqual(terminal.enter("undo"), doubt)
         self.assertIn("taken back: routine plural", terminal.enter("undo"))
         self.assertIn("made again", terminal.enter("remove hundo", "redo"))
+        terminal.enter("undo", "add kato")
+        self.assertEqual(terminal.enter("undo"), "There is no edit to undo. remove WORD takes an added word out.")
 
     def test_a_reply_that_is_a_command(self):
         terminal = self.begin()

@@ -92,7 +92,7 @@ class Terminal(Replies):
         is_pasted = drops and (self.editor.pending or self.editor.has_key())
         doubt = "%s %s drops what you typed." % (short(self.bench.script), what) if drops else ""
         command, _, word = self.bench.last_words.partition(" ")
-        if line == "undo" and command and self.bench.read("history"):
+        if line == "undo" and command and any(row.kind == "done" for row in self.bench.read("history")):
             doubt = "undo takes back edits of the script, and no words: %s %s does that. undo again takes back the last edit." % ("remove" if command == "add" else "add", short(word))
         if not is_pasted and self.is_sure(line or "Enter", doubt):
             self.edit([line or "reload"])
