@@ -218,8 +218,10 @@ class Desk:
             # (a fault of the whole script has no line)
             said = "%s. %s" % (name, said)
         # (what is said of a name that is not declared, or of if and then, is said once)
-        all_found = faults.without_following(self.bench.read("faults")) if code == 48 else []
-        found = list({row.sentence.partition(" Snowball has no ")[2] or row.sentence: row for row in reversed(all_found)}.values())[-2::-1]
+        told = {}  # type: Dict[str, Any]
+        for row in faults.without_following(self.bench.read("faults")) if code == 48 else []:
+            told.setdefault(row.sentence.partition(" Snowball has no ")[2] or row.sentence, row)
+        found = list(told.values())[1:]
         most = max(1, self.screen.size().lines // 3)
         others = ["also %s:%s: %s" % row[5:8] if row.line else "also: " + row.sentence for row in found[:most]]
         if len(lines) > 2 and any(re.search(r":\d+:\d+: \. can only be in", line) for line in reply.said):
