@@ -861,24 +861,24 @@ class Traps(Case):
                 self.assertEqual(file.read(), other)
         self.assertEqual(terminal.enter("save my.sbl", "save my.sbl"), "saved in my.sbl")
 
-    def test_a_rescue_over_a_script_that_has_not_changed(self):
+    def left_behind(self):
+        """Returns a `work` after one whose terminal was closed with a typed edit."""
         terminal = self.begin()
         terminal.enter("routine plural", "true", ".")
         os.kill(terminal.child, signal.SIGHUP)
         self.assertEqual(terminal.ended(), 1)
         terminal = self.terminal(self.folder)
         terminal.got()
+        return terminal
+
+    def test_a_rescue_over_a_script_that_has_not_changed(self):
+        terminal = self.left_behind()
         self.assertNotIn("has changed", terminal.enter("rescue"))
         self.assertEqual(terminal.enter("save my.sbl"), "saved in my.sbl")
 
     def test_a_rescue_that_a_save_replaces(self):
         """What was typed before the terminal was closed has its names afterwards, too."""
-        terminal = self.begin()
-        terminal.enter("routine plural", "true", ".")
-        os.kill(terminal.child, signal.SIGHUP)
-        self.assertEqual(terminal.ended(), 1)
-        terminal = self.terminal(self.folder)
-        terminal.got()
+        terminal = self.left_behind()
         terminal.enter("rescue")
         terminal.save(AUTHOR + "// new\n")
         self.assertIn("replaced: plural (undo brings it back)", terminal.enter(""))
@@ -931,12 +931,7 @@ class Traps(Case):
         self.assertIn("2  made        routine ending", shown)
 
     def test_what_was_rescued_and_is_taken_back(self):
-        terminal = self.begin("my.sbl", "my.words")
-        terminal.enter("routine plural", "true", ".")
-        os.kill(terminal.child, signal.SIGHUP)
-        self.assertEqual(terminal.ended(), 1)
-        terminal = self.terminal(self.folder)
-        terminal.got()
+        terminal = self.left_behind()
         terminal.enter("rescue", "undo")
         self.assertIn("What was rescued is taken back (plural), and no file has it: redo brings it back", terminal.enter("quit"))
         os.kill(terminal.child, signal.SIGHUP)

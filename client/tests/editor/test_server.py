@@ -589,4 +589,4 @@ class Trouble(OverServer):
         done = subprocess.run([sys.executable, "-B", CLIENT, "--lsp"], stdin=theirs, capture_output=True, text=True)
         os.close(ours)
         os.close(theirs)
-        self.assertEqual((done.returncode, done.stderr[:30]), (2, "snowbench: an editor starts ls"))
+        self.assertEqual((done.returncode, done.stderr[:30]), (2, "snowbench: lsp takes no file a"))

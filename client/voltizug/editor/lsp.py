@@ -19,7 +19,7 @@ def main(words: Sequence[str]) -> int:
     """Serves until the client ends it. (A thread may still wait for standard input then.)"""
     program = words[1] if len(words) == 2 and words[0] == "--program" else "" if words else usual_program()
     if not program or sys.stdin is None or sys.stdin.isatty():
-        sys.stderr.write("snowbench: an editor starts lsp, and sends it the texts (docs/EDITORS.md)\n" if program else "snowbench: lsp takes no file: an editor starts it, and sends it the texts\n")
+        sys.stderr.write("snowbench: lsp takes no file and no terminal: an editor starts it, and sends it the texts (docs/EDITORS.md)\n")
         return 2
     signal.signal(signal.SIGINT, signal.SIG_DFL)
     sys.setswitchinterval(0.001)

@@ -196,7 +196,7 @@ def in_json(data: Any) -> bytes:
 
 
 def port(text: str) -> int:
-    if not text.isascii() or not text.isdigit() or int(text[:6]) > 65535:
+    if not text.isascii() or not text.isdigit() or int(text) > 65535:
         raise argparse.ArgumentTypeError("it takes a number from 0 to 65535")
     return int(text)
 
