@@ -111,10 +111,10 @@ pub(crate) fn push_operator(
     push_advice(shown, sentence.as_str())
 }
 
-/// Returns whether `<=` is at the place, and a literal after it.
+/// Returns whether `<=` or `=` is at the place, and a literal after it.
 fn is_arrow_meant(site: Site<'_>) -> bool {
     let (next, _) = site.next_kinds();
-    site.operator() == Some(Sign::AtMost) && next == Some(Kind::Literal)
+    matches!(site.operator(), Some(Sign::AtMost | Sign::Equals)) && next == Some(Kind::Literal)
 }
 
 /// Appends what comes in parentheses of commands.

@@ -24,6 +24,10 @@ fn foreign_word(name: &str) -> Option<&'static str> {
         "begin" | "end" => Some("Snowball has no begin and end: commands are in parentheses."),
         "return" => Some("Snowball has no return: a routine ends with the last of its commands."),
         "at" => Some("Write atlimit or atmark as one word."),
+        "mark" => Some("Write setmark, tomark or atmark as one word."),
+        "function" | "func" | "fun" | "def" | "sub" | "proc" | "procedure" => {
+            Some("A routine begins with define and its name: define r as ( .. ).")
+        }
         "replace" => Some("Snowball has no replace: <- 'x' puts x in place of the slice."),
         "remove" => Some("Snowball has no remove: delete takes the slice out."),
         _ => None,

@@ -209,6 +209,10 @@ fn push_way_out(
 ) -> Result<(), AllocError> {
     let Place { faulty, spot } = place;
     let name = spot.token;
+    if let Some(advice) = advice_on(faulty.alloc, faulty.script, name) {
+        shown.push_str(" ")?;
+        return shown.push_str(advice);
+    }
     let need = need_at(place);
     let names = usable_names(faulty.alloc, declared, faulty.part, need)?;
     let before = place.tokens_before();
@@ -222,10 +226,6 @@ fn push_way_out(
     }
     if is_at_terms(place) {
         return push_term(shown, place, need);
-    }
-    if let Some(advice) = advice_on(faulty.alloc, faulty.script, name) {
-        shown.push_str(" ")?;
-        return shown.push_str(advice);
     }
     if push_near_word(faulty.alloc, shown, name, &before, faulty.part)? {
         return push_declaration(shown, place, need, " If not, declare", ".");
