@@ -228,7 +228,7 @@ class Sessions(Case):
         self.assertEqual(terminal.enter("save my.sbl"), "saved in my.sbl")
         with open(script) as file:
             self.assertIn("plural as true", file.read())
-        self.assertEqual(terminal.enter(""), "my.sbl has not changed since it was read.\n3 words, 3 split since the mark (this edit changed none)")
+        self.assertEqual(terminal.enter(""), "my.sbl has not changed since it was read.\n3 words, 3 split since the mark")
         self.assertEqual(os.listdir(self.folder).count("my.sbl"), 1)
 
     def test_a_watched_script_that_is_gone_and_saved_is_not_said_to_be_there_again(self):
@@ -960,6 +960,10 @@ class Traps(Case):
         self.assertIn("made again", terminal.enter("remove hundo", "redo"))
         terminal.enter("undo", "add kato")
         self.assertEqual(terminal.enter("undo"), "There is no edit to undo. remove WORD takes an added word out.")
+        terminal.enter("redo")
+        terminal.type("add lundo mardo\r", rb"nothing: ")
+        terminal.type("y\r", rb"mardo is added.*\n> ")
+        self.assertEqual(terminal.enter("undo"), doubt.replace("hundo", "lundo mardo"))
 
     def test_a_reply_that_is_a_command(self):
         terminal = self.begin()

@@ -157,7 +157,7 @@ def figures(found: Sequence[Any], since: str = " since the mark") -> str:
 def summary(edit: Edit) -> str:
     """Returns the line that stands last after an edit."""
     text = figures(edit.changes)
-    if edit.own == []:
+    if edit.own == [] and edit.note not in ("unchanged", "same"):
         text += " (this %s changed none)" % (edit.command if edit.step else "edit")
     elif edit.own and edit.changes:
         text = "this %s: %s; %s" % (edit.command if edit.step else "edit", figures(edit.own, ""), text)

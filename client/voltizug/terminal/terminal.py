@@ -171,6 +171,9 @@ class Terminal(Replies):
             reply = self.asked(prompt % (len(parts), in_words(parts, "and", 6)))
         for word in {"one": [text], "y": parts, "yes": parts}.get(reply.lower(), []):
             self.ask(command + " " + word)
+        if self.bench.last_words and reply.lower() in ("y", "yes"):
+            # (undo speaks of all of them)
+            self.bench.last_words = " ".join([command, *parts])
         if reply.lower() not in ("", "n", "no", "one", "y", "yes"):
             what = "Nothing was %sed" % command.rstrip("e")
             is_command = reply.partition(" ")[0] in COMMANDS
