@@ -367,7 +367,12 @@ fn push_character(shown: &mut String, place: Place<'_>) -> Result<(), AllocError
         Some("The line that ends a text has a point and no blank after it")
     } else if character == '{' && follows_quote(faulty.text, spot.begin) {
         Some("If a literal is meant, look for a missing quote before it")
-    } else if faulty.text.get(spot.begin..).unwrap_or(&[]).starts_with(b":=") {
+    } else if faulty
+        .text
+        .get(spot.begin..)
+        .unwrap_or(&[])
+        .starts_with(b":=")
+    {
         Some("Did you mean =?")
     } else if is_letter(character) && matches!(faulty.part, Some(Part::Grouping(_))) {
         Some("Characters are in quotes")
