@@ -3,7 +3,7 @@ import re
 from typing import Any, Dict, Iterable, List, NamedTuple, Optional, Sequence, Tuple
 
 from .language import ITEMS
-from .layout import named, short
+from .layout import in_words, named, short
 from .near import meant, near
 from .places import BOM, line_and_column
 from .rows import Token
@@ -73,16 +73,19 @@ def advice(line: str, source: str, carets: str, text: bytes) -> str:
         name = source[carets.index("^") + 1 :].partition("}")[0]
         if code := re.fullmatch(r"[uU]\+?([0-9A-Fa-f]{1,6})", name):
             return ". Did you mean {U+%s}?" % code[1]
-        found = re.finditer(r"\b(?:stringdef|define)\s+(\S+)", text.decode("utf-8", "replace"))
+        script = text.decode("utf-8", "replace")
+        found, right = re.finditer(r"\b(?:stringdef|define)\s+(\S+)", script), re.findall(r"\bstringdef\s+(\S+)\s+(?:hex\s*|decimal\s*)?'", script)
         names = {other[1]: 1 + other.string.count("\n", 0, other.start()) for other in found if other[0].startswith("stringdef") or other[1] == name}
         # (hex may have come without a name before it)
-        at = next((number for other, number in names.items() if name in (other, other.strip("{}()[]',;:\"=")) or other in ("hex", "decimal")), 0)
+        wrong = {other: other.strip("{}()[]',;:\"=") for other in names if other not in right}
+        at = next((number for other, number in names.items() if name in (other, wrong.get(other)) or other in ("hex", "decimal")), 0)
         place = re.search(r":(\d+):\d+: ", line)
         if at and place and at > int(place[1]):
             return ". Line %d defines it, but has to be above this" % at
         if at:
             return ". Line {0} is meant to, perhaps: stringdef {1} '..' or stringdef {1} hex '..'".format(at, short(name))
-        return "." * bool(near(name, names)) + meant(name, list(names))
+        longer = list(dict.fromkeys(other for other in right if other[:-1] == name))
+        return ". Did you mean %s?" % in_words(longer, "or") if longer else "." * bool(near(name, names)) + meant(name, list(names))
     if ": this is no code of a character: " in line and "^" in carets and re.match(r"\{U\+[0-9A-F]{1,6}\}", source[carets.index("^") :]):
         return ". No character has a code from D800 to DFFF or above 10FFFF"
     unknown = re.search(r": (\w+) is not declared\. Declare it\b.*, or use another name\.\Z", line)
