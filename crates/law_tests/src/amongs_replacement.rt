@@ -1,12 +1,12 @@
-//! Laws of replaced amongs (sbl_ast, specs/Replacement.antt), written out.
+//! Laws of replaced amongs (sbl_tree_amongs, specs/Replacement.antt), written out.
 
 ghost use Rattle.std.specs.Prelude.{◌≡◌, ℕ, Some, None};
 ghost use Rattle.sbl_ast.specs.Tree.{Command, Others, Starter, Groups};
 ghost use Rattle.sbl_ast.specs.Texts.{body, places_in};
-ghost use Rattle.sbl_ast.specs.Amongs.{AmongContents, amongs_of_body as amongs_of, nth_held, put_in_body};
-ghost use Rattle.sbl_ast.specs.Replacement.{IsBetween};
+ghost use Rattle.sbl_tree_amongs.specs.Amongs.{AmongContents, amongs_of_body as amongs_of, nth_held, put_in_body};
+ghost use Rattle.sbl_tree_amongs.specs.Replacement.{IsBetween};
 
-use sbl_ast::laws::one_is_replaced;
+use sbl_tree_amongs::laws::one_is_replaced;
 
 /// Needs the whole of the law `one_is_replaced`.
 pub fn needs_one_is_replaced()

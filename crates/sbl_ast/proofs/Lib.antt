@@ -1,9 +1,4 @@
 pub mod Views
 pub mod After
 pub mod Lexed
-pub mod Putting
-pub mod Held
-pub mod Walking
-pub mod Words
-pub mod Swapped
 pub mod PlacedTokens

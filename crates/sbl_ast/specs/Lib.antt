@@ -8,11 +8,8 @@ pub mod Symbols
 pub mod Places
 pub mod Texts
 pub mod Counts
-pub mod Amongs
-pub mod Replacement
 pub mod NamedParts
 -- what the functions inside the crate promise each other; no public contract depends on these
-pub mod WalkEnds
 pub mod Terminal
 pub mod Spelled
 pub mod TerminalPlaces

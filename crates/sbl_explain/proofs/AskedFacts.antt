@@ -5,7 +5,7 @@ use Rattle.std.specs.Borrow.{Bor}
 use Rattle.sbl_ast.specs.Tree.{Command, Groups, Others}
 use Rattle.sbl_ast.specs.View.{view_among}
 use Rattle.sbl_ast.specs.declared.tree.Among.{Among}
-use Rattle.sbl_ast.specs.Amongs.{amongs_of_body}
+use Rattle.sbl_tree_amongs.specs.Amongs.{amongs_of_body}
 use Rattle.sbl_explain.specs.Parts.{groups_held, strings_of}
 use Rattle.sbl_explain.specs.UnusedViews.{view_amongs}
 use Rattle.sbl_explain.specs.Uses.{among_strings, strings_at}

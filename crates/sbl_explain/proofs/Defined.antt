@@ -15,7 +15,7 @@ use Rattle.sbl_semantics.specs.Items.{is_member, known_in, names_by}
 use Rattle.sbl_semantics.specs.TouchedItems.{Names'}
 use Rattle.sbl_ast.specs.NamedParts.{Part', Routine, Among, Grouping}
 use Rattle.sbl_source_map.specs.Definitions.{defines_name}
-use Rattle.sbl_ast.specs.Amongs.{amongs_of_body}
+use Rattle.sbl_tree_amongs.specs.Amongs.{amongs_of_body}
 use Rattle.sbl_explain.specs.Counts.{usables_in, usables_of}
 use Rattle.sbl_explain.specs.Parts.{Part, amongs_from, groups_held, parts_by, strings_of}
 use Rattle.sbl_explain.specs.Used.{Entry, Usable, Whole}

@@ -1,7 +1,7 @@
 -- The amongs that the code gathers are those of the body.
 use Rattle.std.proofs.Common.{◌≡◌, ◌∙◌, ◌++◌, ◌∷◌, ◌+◌, ℕ, List, [], refl, sym, append_assoc}
 use Rattle.std.proofs.lemmas.List.{append-nil}
-use Rattle.sbl_ast.specs.Amongs.{AmongContents, amongs, amongs_of_body, amongs_of_groups, amongs_of_others, amongs_of_rows, amongs_of_starter}
+use Rattle.sbl_tree_amongs.specs.Amongs.{AmongContents, amongs, amongs_of_body, amongs_of_groups, amongs_of_others, amongs_of_rows, amongs_of_starter}
 use Rattle.sbl_ast.specs.Tree.{Command, bracket, simple_, literal_, name_, non_, prefixed, counted, move_, named, splice_, setlimit_, assign_, compare_, compare_values_, among_, Rows, no_rows, row, Others, no_others, joined, Starter, no_starter, starter, Groups, bare, group}
 use Rattle.sbl_ast.specs.View.{RowView}
 use Rattle.sbl_explain.specs.Parts.{groups_held}

@@ -2,7 +2,7 @@
 use Rattle.std.specs.Prelude.{ℕ, suc, List, [], ◌∷◌, ◌++◌, map}
 use Rattle.std.specs.BTreeMap.{insert_entry}
 use Rattle.std.specs.List.{flat_map}
-use Rattle.sbl_ast.specs.Amongs.{AmongContents, amongs_of_body}
+use Rattle.sbl_tree_amongs.specs.Amongs.{AmongContents, amongs_of_body}
 use Rattle.sbl_semantics.specs.TouchedItems.{item_cmp}
 use Rattle.sbl_ast.specs.NamedParts.{Part', Routine, Among, Grouping}
 use Rattle.sbl_ast.specs.Source.{Source}

@@ -6,7 +6,7 @@ use Rattle.std.specs.Result.{result_map_both}
 use Rattle.std.specs.Str.{bytes_eq}
 use Rattle.sbl_rows.specs.Setting.{Setting}
 use Rattle.sbl_ast.specs.NamedParts.{Part', Routine, Among, Grouping}
-use Rattle.sbl_ast.specs.Amongs.{amongs_of_body}
+use Rattle.sbl_tree_amongs.specs.Amongs.{amongs_of_body}
 use Rattle.sbl_script.specs.Edits.{first_of}
 use Rattle.sbl_source_map.specs.Definitions.{defines_name}
 use Rattle.sbl_ast.specs.Source.{Source}

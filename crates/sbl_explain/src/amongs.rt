@@ -1,7 +1,7 @@
 //! The amongs of a routine's body, in the order of their words `among`, and their strings.
 
 ghost use Rattle.std.specs.Prelude.{◌≡◌, ◌++◌, ◌∷◌, [], List, map, OnOk, IfOk};
-ghost use Rattle.sbl_ast.specs.Amongs.{amongs_of_body};
+ghost use Rattle.sbl_tree_amongs.specs.Amongs.{amongs_of_body};
 ghost use Rattle.sbl_ast.specs.Tree as trees;
 ghost use Rattle.sbl_ast.specs.View.{view_among, view_command, view_entry, view_row};
 ghost use Rattle.sbl_ast.specs.inside.ViewParts.{view_groups, view_others, view_rows};

@@ -9,7 +9,7 @@ use Rattle.sbl_ast.specs.Tree.{Argument, written_out, Term, Starter, Groups, Pla
 use Rattle.sbl_ast.specs.View.{RowView}
 use Rattle.sbl_ast.specs.Counts.{count_in_among}
 use Rattle.sbl_resolver.specs.Laws.{WellDeclaredPasses}
-use Rattle.sbl_ast.specs.Amongs.{AmongContents, amongs_of_body, nth_held, put_in_body}
+use Rattle.sbl_tree_amongs.specs.Amongs.{AmongContents, amongs_of_body, nth_held, put_in_body}
 use Rattle.sbl_semantics.specs.Items.{is_member, known_in, names_by}
 use Rattle.sbl_semantics.specs.Regions.{number_after}
 use Rattle.sbl_ast.specs.Order.{ItemInMode, in_order}

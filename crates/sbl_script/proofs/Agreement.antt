@@ -20,9 +20,9 @@ use Rattle.sbl_ast.specs.Texts.{Text, TreeOf, places_in}
 use Rattle.sbl_ast.specs.Texts as texts
 use Rattle.sbl_ast.specs.View.{RowView}
 use Rattle.sbl_ast.proofs.After.{plain_before, tree_before}
-use Rattle.sbl_ast.specs.Amongs.{AmongContents, amongs_of_body, nth_held, put_in_body}
-use Rattle.sbl_ast.specs.Replacement.{count_words, is_among}
-use Rattle.sbl_ast.proofs.Swapped.{body_one}
+use Rattle.sbl_tree_amongs.specs.Amongs.{AmongContents, amongs_of_body, nth_held, put_in_body}
+use Rattle.sbl_tree_amongs.specs.Replacement.{count_words, is_among}
+use Rattle.sbl_tree_amongs.proofs.Swapped.{body_one}
 use Rattle.sbl_parser.proofs.OneTree.{trees_are_one}
 use Rattle.sbl_script.specs.declared.edit_fault.EditFault.{EditFault}
 use Rattle.sbl_script.specs.declared.edit_fault.EditFault.TheVariants as edits

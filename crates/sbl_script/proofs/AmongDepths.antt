@@ -14,11 +14,11 @@ use Rattle.sbl_token.specs.Lexemes.{Lexeme}
 use Rattle.sbl_ast.specs.Symbols as t
 use Rattle.sbl_ast.specs.Tree.{Argument, written_out, by_name, Expression, expression, Sums, no_sums, sum, Product, product, Scales, no_scales, scale, Factor, negated, bracketed, fixed, length_of, Entry, entry, Command, bracket, simple_, literal_, name_, non_, prefixed, counted, move_, named, splice_, setlimit_, assign_, compare_, compare_values_, among_, Rows, no_rows, row, Others, no_others, joined, Starter, no_starter, starter, Groups, bare, group}
 use Rattle.sbl_ast.specs.View.{RowView}
-use Rattle.sbl_ast.specs.Amongs.{AmongContents, amongs, amongs_of_rows, amongs_of_others, amongs_of_starter, amongs_of_groups, amongs_of_body, nth_held, put_in_body}
-use Rattle.sbl_ast.specs.Replacement.{is_among}
-use Rattle.sbl_ast.proofs.Words.{additive_other, assigns_other, compares_other, constant_other, count_other, joiner_other, move_other, multiplicative_other, naming_other, prefix_other, simple_other, splice_other}
-use Rattle.sbl_ast.proofs.Held.{none_is_first}
-use Rattle.sbl_ast.proofs.Swapped.{body_one}
+use Rattle.sbl_tree_amongs.specs.Amongs.{AmongContents, amongs, amongs_of_rows, amongs_of_others, amongs_of_starter, amongs_of_groups, amongs_of_body, nth_held, put_in_body}
+use Rattle.sbl_tree_amongs.specs.Replacement.{is_among}
+use Rattle.sbl_tree_amongs.proofs.Words.{additive_other, assigns_other, compares_other, constant_other, count_other, joiner_other, move_other, multiplicative_other, naming_other, prefix_other, simple_other, splice_other}
+use Rattle.sbl_tree_amongs.proofs.Held.{none_is_first}
+use Rattle.sbl_tree_amongs.proofs.Swapped.{body_one}
 use Rattle.sbl_script.specs.Edits.{among_depths}
 
 abbrev Ps : Type 0

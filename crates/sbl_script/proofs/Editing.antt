@@ -8,7 +8,7 @@ use Rattle.sbl_text.specs.declared.fault.ScriptFault.TheVariants as fault
 use Rattle.sbl_text.specs.Escapes.{InForce}
 use Rattle.sbl_text.specs.Directives.{Directives, start_under}
 use Rattle.sbl_text.specs.Tokens.{PlacedToken, ArePlacedFrom, IsFirstFaultFrom, placed_of}
-use Rattle.sbl_ast.specs.Amongs.{AmongContents, amongs_of_body, nth_held}
+use Rattle.sbl_tree_amongs.specs.Amongs.{AmongContents, amongs_of_body, nth_held}
 use Rattle.sbl_ast.specs.Tree.{Argument, Term, Plain, routine, grouping, Item}
 use Rattle.sbl_ast.specs.Texts.{Text, TreeOf}
 use Rattle.sbl_ast.specs.View.{RowView}

@@ -11,7 +11,7 @@ use Rattle.sbl_ast.specs.Tree.{Plain, routine, grouping, Item}
 use Rattle.sbl_ast.specs.Texts.{TreeOf}
 use Rattle.sbl_parser.specs.Reading.{IsReadAs}
 use Rattle.sbl_ast.specs.declared.tree.DeclarationKind.TheVariants as declared_kinds
-use Rattle.sbl_ast.specs.Amongs.{AmongContents, amongs_of_body, nth_held, put_in_body}
+use Rattle.sbl_tree_amongs.specs.Amongs.{AmongContents, amongs_of_body, nth_held, put_in_body}
 use Rattle.sbl_resolver.specs.declared.occurrences.Site.{Site}
 use Rattle.sbl_resolver.specs.Occurrences.{Occurrence, Notice, declares, defines_routine, defines_grouping, uses, substring, among, string, backwards, region_end, noted_items, occurrences_of}
 use Rattle.sbl_script.specs.declared.edit_fault.EditFault.{EditFault}

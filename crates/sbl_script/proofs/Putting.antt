@@ -6,7 +6,7 @@ use Rattle.sbl_token.specs.declared.words.Word.TheVariants as words
 use Rattle.sbl_token.specs.declared.signs.Sign.TheVariants as signs
 use Rattle.sbl_ast.specs.Tree.{Command, bracket, simple_, literal_, name_, non_, prefixed, counted, move_, named, splice_, setlimit_, assign_, compare_, compare_values_, among_, Rows, no_rows, row, Others, no_others, joined, Starter, no_starter, starter, Groups, bare, group}
 use Rattle.sbl_ast.specs.Counts.{count_amongs, count_in_rows, count_in_others, count_in_starter}
-use Rattle.sbl_ast.specs.Amongs.{put_among, put_in_rows, put_in_others, put_in_starter, put_in_groups, put_in_body}
+use Rattle.sbl_tree_amongs.specs.Amongs.{put_among, put_in_rows, put_in_others, put_in_starter, put_in_groups, put_in_body}
 use Rattle.sbl_ast.specs.Places.{AtDepth, placed_command, placed_rows, placed_others, placed_starter, placed_groups, placed_entry, placed_entries, placed_expression}
 use Rattle.sbl_ast.specs.Texts.{body, places_in}
 use Rattle.sbl_ast.proofs.After.{IsBefore, entry_before, entries_before, expression_before, tree_before}

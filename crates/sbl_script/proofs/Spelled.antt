@@ -20,7 +20,7 @@ use Rattle.sbl_ast.specs.Tree.{Argument, Term, Starter, Groups, among_, Plain, d
 use Rattle.sbl_ast.specs.Places.{lexemes_of, AtDepth, placed_command, placed_plain, tokens}
 use Rattle.sbl_ast.specs.inside.PlaceParts.{placed_plains, placed_items}
 use Rattle.sbl_ast.specs.View.{RowView}
-use Rattle.sbl_ast.specs.Amongs.{put_in_body}
+use Rattle.sbl_tree_amongs.specs.Amongs.{put_in_body}
 use Rattle.sbl_ast.specs.Texts.{Text, TreeOf, body, places_in, script, tokens_of}
 use Rattle.sbl_ast.specs.Texts as texts
 use Rattle.sbl_parser.specs.Reading.{IsReadAs}

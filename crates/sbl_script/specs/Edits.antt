@@ -11,7 +11,7 @@ use Rattle.sbl_text.specs.Directives.{Directives, start_under, value_for_macro, 
 use Rattle.sbl_text.specs.Tokens.{PlacedToken}
 use Rattle.sbl_ast.specs.declared.tree.Base.{Base}
 use Rattle.sbl_ast.specs.declared.tree.Base.TheVariants as bases
-use Rattle.sbl_ast.specs.Replacement.{is_among}
+use Rattle.sbl_tree_amongs.specs.Replacement.{is_among}
 use Rattle.sbl_ast.specs.NamedParts.{Part', Routine, Among, Grouping}
 use Rattle.sbl_ast.specs.Order.{ItemInMode, in_order}
 use Rattle.sbl_ast.specs.Tree.{Plain, escapes, macro, routine, grouping, Item, plain, backward, Starter, Groups}

@@ -7,7 +7,7 @@ use Rattle.sbl_text.specs.declared.fault.ScriptFault.{ScriptFault}
 use Rattle.sbl_text.specs.Escapes.{InForce, nothing_set}
 use Rattle.sbl_text.specs.Directives.{Directives, start_under}
 use Rattle.sbl_text.specs.Tokens.{PlacedToken}
-use Rattle.sbl_ast.specs.Amongs.{AmongContents, amongs_of_body, nth_held, put_in_body}
+use Rattle.sbl_tree_amongs.specs.Amongs.{AmongContents, amongs_of_body, nth_held, put_in_body}
 use Rattle.sbl_ast.specs.Counts.{count_in_among}
 use Rattle.sbl_ast.specs.Texts.{Text, TreeOf}
 use Rattle.sbl_ast.specs.Texts as texts

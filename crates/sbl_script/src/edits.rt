@@ -10,8 +10,9 @@ ghost use Rattle.sbl_script.specs.Homes as homes;
 ghost use Rattle.sbl_script.specs.Parts.{view_part};
 
 use crate::part::Part;
-use sbl_ast::{Argument, Base, Grouping, Plain, RowOfCommands, ScriptItem, Term, copy_plain};
+use sbl_ast::{Argument, Base, Grouping, Plain, RowOfCommands, ScriptItem, Term};
 use sbl_text::{Coding, Escapes, ScriptFault, macro_value};
+use sbl_tree_amongs::copy_plain;
 use std::alloc::{AllocError, Global};
 
 /// Whether the item is a definition that the part may be in.

@@ -20,14 +20,12 @@ use crate::edit_fault::EditFault;
 use crate::edits;
 use crate::edits::{escapes_before, items_with};
 use crate::part::Part;
-use sbl_ast::{
-    Among, Argument, Plain, RowOfCommands, ScriptItem, Term, has_as_many_amongs, nth_among,
-    put_in_place,
-};
+use sbl_ast::{Among, Argument, Plain, RowOfCommands, ScriptItem, Term};
 use sbl_parser::{is_left_out, parse, parse_among, parse_body, parse_terms};
 use sbl_print::canonical_text;
 use sbl_resolver::{body_in, check};
 use sbl_text::{ScriptFault, Token, tokens, tokens_under};
+use sbl_tree_amongs::{has_as_many_amongs, nth_among, put_in_place};
 use std::alloc::{AllocError, Global};
 use std::marker::Model;
 

@@ -12,10 +12,10 @@ ghost use Rattle.sbl_source_map.specs.Definitions as spec;
 ghost use Rattle.sbl_source_map.specs.HeadReader.{IsAfterWord, IsEndOf, head_words};
 ghost use Rattle.sbl_source_map.specs.Heads as heads;
 
-use sbl_ast::copy_plain;
 use sbl_print::canonical_text;
 use sbl_script::{Part, Plain, Script, ScriptItem};
 use sbl_text::{Lexer, ScriptFault, Token};
+use sbl_tree_amongs::copy_plain;
 use std::alloc::{AllocError, Global};
 use std::slice::from_ref;
 

@@ -3,7 +3,8 @@
 ghost use Rattle.std.specs.Prelude.{◌≡◌, IfOk};
 ghost use Rattle.sbl_tree_diff.specs.WalkViews.{after_among};
 
-use sbl_ast::{Among, among_count};
+use sbl_ast::Among;
+use sbl_tree_amongs::among_count;
 use std::alloc::AllocError;
 
 /// Returns how many amongs of the routine come before what follows an among, if `before` come before the among. Returns

@@ -10,8 +10,9 @@ ghost use Rattle.sbl_tree_diff.specs.WalkViews.{numbers_of};
 
 use crate::command_diff::differ_bodies;
 use crate::same::{alike, same_argument, same_base, same_literal, same_names, same_terms};
-use sbl_ast::{Plain, ScriptItem, copy_name};
+use sbl_ast::{Plain, ScriptItem};
 use sbl_semantics::Item;
+use sbl_tree_amongs::copy_name;
 use std::alloc::{AllocError, Global};
 
 /// Returns no item if two items without a body and without terms are the same, and `None` if they differ.

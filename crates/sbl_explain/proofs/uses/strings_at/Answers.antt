@@ -3,7 +3,7 @@ use Rattle.std.proofs.lemmas.Option.{slice_get_past, slice_get_read}
 use Rattle.std.specs.Borrow.{Bor}
 use Rattle.sbl_ast.specs.View.{view_row}
 use Rattle.sbl_ast.specs.declared.tree.Among.{Among}
-use Rattle.sbl_ast.specs.Amongs.{amongs_of_body}
+use Rattle.sbl_tree_amongs.specs.Amongs.{amongs_of_body}
 use Rattle.sbl_explain.specs.Parts.{groups_held}
 use Rattle.sbl_explain.specs.UnusedViews.{view_amongs}
 use Rattle.sbl_explain.proofs.AskedFacts.{strings_there}

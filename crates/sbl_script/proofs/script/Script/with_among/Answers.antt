@@ -3,7 +3,7 @@ use Rattle.std.proofs.lemmas.Result.{err_from_is_err_and}
 use Rattle.sbl_text.specs.declared.fault.ScriptFault.TheVariants as fault
 use Rattle.sbl_token.specs.declared.token.Token.{Token}
 use Rattle.sbl_text.specs.Tokens.{placed_of}
-use Rattle.sbl_ast.specs.Amongs.{AmongContents, amongs_of_body}
+use Rattle.sbl_tree_amongs.specs.Amongs.{AmongContents, amongs_of_body}
 use Rattle.sbl_ast.specs.Places.{placed_plain, places, AreShallow}
 use Rattle.sbl_parser.specs.Reading.{IsReadAs}
 use Rattle.sbl_ast.specs.Texts as texts
