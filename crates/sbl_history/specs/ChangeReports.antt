@@ -6,7 +6,8 @@ use Rattle.sbl_bench.specs.Contents.{Contents, rows_now}
 use Rattle.sbl_rows.specs.Changes.{Added, Change, Changed, Merged, Removed, Renamed, Split, changes_of}
 use Rattle.sbl_rows.specs.Rows.{Row}
 use Rattle.sbl_io.specs.Records.{records_text}
-use Rattle.sbl_reports.specs.Reports.{change_fields, figure_fields}
+use Rattle.sbl_records.specs.ChangeRecords.{change_fields}
+use Rattle.sbl_reports.specs.Reports.{figure_fields}
 use Rattle.sbl_history.specs.declared.change_reports.ChangeKind.{ChangeKind}
 use Rattle.sbl_history.specs.declared.change_reports.ChangeKind.TheVariants as kind
 use Rattle.sbl_history.specs.contracts.change_reports.ChangeKind as kinds

@@ -7,13 +7,13 @@ ghost use Rattle.sbl_io.specs.Records as records;
 ghost use Rattle.sbl_io.specs.Records.{record_line};
 ghost use Rattle.sbl_history.specs.ChangeReports as spec;
 ghost use Rattle.sbl_reports.specs.Reports as reports;
-ghost use Rattle.sbl_reports.specs.Reports.{change_fields};
+ghost use Rattle.sbl_records.specs.ChangeRecords.{change_fields};
 
 use crate::few::changes_of_few;
 use csv::ByteRecord;
 use sbl_bench::{Bench, Row};
 use sbl_io::push_line;
-use sbl_reports::{Record, records_text};
+use sbl_records::{Record, records_text};
 use sbl_rows::ChangeRow;
 use std::alloc::{AllocError, Global};
 

@@ -20,8 +20,8 @@ use Rattle.sbl_input.specs.FileWords.{file_words}
 use Rattle.sbl_input.specs.declared.faults.LoadFault.TheVariants as load
 use Rattle.sbl_io.specs.declared.faults.ServeFault.TheVariants as serve
 use Rattle.sbl_ast.specs.NamedParts.{Part'}
-use Rattle.sbl_explain.specs.Counts.{counts_text}
-use Rattle.sbl_explain.specs.Unused.{unused_text}
+use Rattle.sbl_uses.specs.Counts.{counts_text}
+use Rattle.sbl_uses.specs.Unused.{unused_text}
 use Rattle.sbl_reports.specs.Block.{max_script}
 use Rattle.sbl_reports.specs.Lookups.{found_text}
 use Rattle.sbl_reports.specs.Reports.{changes_text, largest_text, stats_text}

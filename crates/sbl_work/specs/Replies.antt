@@ -17,12 +17,12 @@ use Rattle.sbl_sessions.specs.Answers.{edit_text, with_line_feed}
 use Rattle.sbl_sessions.specs.CommandViews.{IsTextAnswer, IsTextBreak}
 use Rattle.sbl_sessions.specs.Commands.{Command}
 use Rattle.sbl_sessions.specs.EditFaults.{fault_in}
-use Rattle.sbl_explain.specs.Unused as unused
-use Rattle.sbl_explain.specs.Counts.{counts_text}
+use Rattle.sbl_uses.specs.Unused as unused
+use Rattle.sbl_uses.specs.Counts.{counts_text}
 use Rattle.sbl_explain.specs.Integers as integers
-use Rattle.sbl_explain.specs.Uses.{Question, uses_text}
-use Rattle.sbl_explain.specs.declared.uses.UsesFault.{UsesFault}
-use Rattle.sbl_explain.specs.declared.uses.UsesFault.TheVariants as uses
+use Rattle.sbl_uses.specs.Uses.{Question, uses_text}
+use Rattle.sbl_uses.specs.declared.uses.UsesFault.{UsesFault}
+use Rattle.sbl_uses.specs.declared.uses.UsesFault.TheVariants as uses
 use Rattle.sbl_explain.specs.WhyRows as rows
 use Rattle.sbl_work.specs.Commands.{WorkCommand, Nothing, Session, EditPart, EditWhole, Undo, Redo, Mark, Changes, Stats}
 use Rattle.sbl_work.specs.Commands.{Unused, Largest, Families, Why, Integers, Uses, Counts, Find, Stem, Show, Saved, NoWords, NoFile, Echo}

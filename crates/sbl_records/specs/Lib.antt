@@ -1,0 +1,6 @@
+-- definitions that the contracts of public functions use
+pub mod Blank
+pub mod RowRecords
+pub mod ItemRecords
+pub mod ChangeRecords
+pub mod FamilyRecords
