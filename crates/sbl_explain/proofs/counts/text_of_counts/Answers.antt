@@ -5,7 +5,7 @@ use Rattle.sbl_io.specs.Records.{records_text}
 use Rattle.sbl_explain.specs.TakeNumbers.{KeepsNumbers}
 use Rattle.sbl_uses.specs.UsableViews.{view_usables}
 use Rattle.sbl_explain.specs.UsableViews.{number_rows, row_for}
-use Rattle.sbl_uses.specs.declared.counts.Count.{Count}
+use Rattle.sbl_explain.specs.declared.counts.Count.{Count}
 use Rattle.sbl_explain.proofs.KeptFacts.{number_is}
 use Rattle.sbl_explain.proofs.counts.text_of_counts.Goals as goal
 
