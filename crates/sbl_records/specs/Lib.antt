@@ -4,3 +4,4 @@ pub mod RowRecords
 pub mod ItemRecords
 pub mod ChangeRecords
 pub mod FamilyRecords
+pub mod FigureRecords

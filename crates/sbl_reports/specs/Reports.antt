@@ -1,24 +1,13 @@
--- The reports of work: what changed since some rows, figures, and the largest classes.
+-- The reports of work: figures, and the largest classes.
 use Rattle.std.specs.Prelude.{ℕ, List, [], ◌∷◌, ◌++◌, codes, decimal, map}
 use Rattle.sbl_bench.specs.Contents.{Contents, rows_now}
-use Rattle.sbl_rows.specs.Changes.{changes_of}
 use Rattle.sbl_rows.specs.Largest.{largest_of}
-use Rattle.sbl_rows.specs.Rows.{Row}
 use Rattle.sbl_rows.specs.Stats.{Stats, stats_of}
 use Rattle.sbl_io.specs.Records.{records_text}
-use Rattle.sbl_records.specs.ChangeRecords.{change_fields}
+use Rattle.sbl_records.specs.FigureRecords.{figure_fields}
 use Rattle.sbl_records.specs.RowRecords.{class_fields}
 
--- ---- changes
-
--- a row for each change between some rows and those of the bench
-abbrev pub changes_text : List Row → Contents → List ℕ
-changes_text before s = records_text (map change_fields (changes_of before (rows_now s)))
-
 -- ---- figures
-
-abbrev pub figure_fields : List ℕ → ℕ → List (List ℕ)
-figure_fields name number = name ∷ decimal number ∷ []
 
 abbrev pub word_figures : Stats → List (List (List ℕ))
 word_figures s = figure_fields (codes "words") s.words ∷ figure_fields (codes "refused") s.refused ∷ []

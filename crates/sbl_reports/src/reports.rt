@@ -1,10 +1,9 @@
-//! The reports of work: a change as a record, figures, and the largest classes.
-ghost use Rattle.std.specs.Prelude.{◌≡◌, ◌++◌, [], IfOk, OnOk, map};
-ghost use Rattle.csv.specs.Records.{fields_of, partial_of};
+//! The reports of work: figures, and the largest classes.
+ghost use Rattle.std.specs.Prelude.{◌≡◌, ◌++◌, IfOk, OnOk};
 ghost use Rattle.sbl_bench.specs.KeptRuns.{contents_of};
-ghost use Rattle.sbl_rows.specs.Changes.{view_change};
 ghost use Rattle.sbl_rows.specs.Stats.{view_stats};
 ghost use Rattle.sbl_io.specs.Records.{record_line, records_text};
+ghost use Rattle.sbl_records.specs.FigureRecords.{figure_fields};
 ghost use Rattle.sbl_reports.specs.Reports as spec;
 
 use csv::ByteRecord;
@@ -16,7 +15,7 @@ use std::alloc::{AllocError, Global};
 
 /// Appends the line of a figure. Returns `AllocError` if an allocation fails.
 fn push_figure(alloc: Global, out: &mut Vec<u8>, name: &str, number: u64) -> Result<(), AllocError>
-    ensures { OnOk result (out.new.items ≡ out.old.items ++ record_line (spec.figure_fields name.now number)) }
+    ensures { OnOk result (out.new.items ≡ out.old.items ++ record_line (figure_fields name.now number)) }
 {
     let digits = format!(in alloc; "{number}")?;
     let mut csv_record = ByteRecord::new(alloc);

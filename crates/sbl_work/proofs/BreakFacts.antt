@@ -12,7 +12,7 @@ use Rattle.sbl_history.specs.Editing.{IsLimitNoted, Replaces, ReplacesPart}
 use Rattle.sbl_history.specs.History.{EditKind, OfPart, OfScript, PastEdit, edit_of}
 use Rattle.sbl_history.specs.MayBreak.{EditsOrBreaksIf}
 use Rattle.sbl_history.specs.Refused.{RefusedText}
-use Rattle.sbl_history.specs.ChangeReports.{change_figures_text, first_changes_text}
+use Rattle.sbl_history.specs.ChangeReports.{change_figures_text, changes_text, first_changes_text}
 use Rattle.sbl_history.specs.Listing.{history_text}
 use Rattle.sbl_history.specs.declared.history.HistoryFault.{HistoryFault}
 use Rattle.sbl_history.specs.declared.history.HistoryFault.TheVariants as turn
@@ -24,7 +24,7 @@ use Rattle.sbl_uses.specs.Counts.{counts_text}
 use Rattle.sbl_uses.specs.Unused.{unused_text}
 use Rattle.sbl_reports.specs.Block.{max_script}
 use Rattle.sbl_reports.specs.Lookups.{found_text}
-use Rattle.sbl_reports.specs.Reports.{changes_text, largest_text, stats_text}
+use Rattle.sbl_reports.specs.Reports.{largest_text, stats_text}
 use Rattle.sbl_reports.specs.StemLines.{stems_in}
 use Rattle.sbl_rows.specs.Rows.{Row}
 use Rattle.sbl_rows.specs.StemRows.{rows_with}

@@ -48,8 +48,8 @@ use Rattle.sbl_source_map.specs.Heads.{IsWithoutHead}
 use Rattle.sbl_text_rows.specs.PlaceRows.{IsPlacesText}
 use Rattle.sbl_text_rows.specs.TokenRows.{IsTokensText}
 use Rattle.sbl_reports.specs.Lookups.{found_text, stem_text}
-use Rattle.sbl_history.specs.ChangeReports.{change_figures_text, first_changes_text}
-use Rattle.sbl_reports.specs.Reports.{changes_text, largest_text, stats_text}
+use Rattle.sbl_history.specs.ChangeReports.{change_figures_text, changes_text, first_changes_text}
+use Rattle.sbl_reports.specs.Reports.{largest_text, stats_text}
 use Rattle.sbl_reports.specs.StemLines.{are_text, have_lines, stems_in}
 use Rattle.sbl_history.specs.declared.history.HistoryFault.{HistoryFault}
 use Rattle.sbl_history.specs.declared.history.HistoryFault.TheVariants as fault
