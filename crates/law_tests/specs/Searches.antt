@@ -4,7 +4,7 @@ use Rattle.std.specs.List.{list_any}
 use Rattle.sbl_ast.specs.Order.{in_order}
 use Rattle.sbl_ast.specs.Source.{Source}
 use Rattle.sbl_ast.specs.declared.mode.Mode.{Mode}
-use Rattle.sbl_explain.specs.Searches.{EndsWith, course, fits, is_conditional}
+use Rattle.sbl_uses.specs.Searches.{EndsWith, course, fits, is_conditional}
 use Rattle.sbl_semantics.specs.Events.{Event', Searches}
 use Rattle.sbl_semantics.specs.Fitting.{ahead_at}
 use Rattle.sbl_semantics.specs.Items.{body_named, char_class_of, classes_after, known_in}

@@ -7,9 +7,9 @@ use Rattle.sbl_resolver.specs.Checks.{WellDeclared}
 use Rattle.sbl_machine.specs.BuiltFrom.{meets_one}
 use Rattle.sbl_semantics.specs.Differs.{differs}
 use Rattle.sbl_ast.specs.NamedParts.{Part'}
-use Rattle.sbl_explain.specs.Parts.{parts_of}
-use Rattle.sbl_explain.specs.Used.{Whole}
-use Rattle.sbl_explain.specs.UsesLaws.{row_if_unused, rows_of_strings}
+use Rattle.sbl_uses.specs.Parts.{parts_of}
+use Rattle.sbl_uses.specs.Used.{Whole}
+use Rattle.sbl_uses.specs.UsesLaws.{row_if_unused, rows_of_strings}
 
 -- the rows of the parts of a script whose number is 0, and then those of such strings
 abbrev pub rows_of_zeros : Setting → List (List ℕ) → List (List (List ℕ))

@@ -1,4 +1,4 @@
-//! Laws of sbl_explain (specs/UsesLaws.antt, specs/EventsStay.antt), written out.
+//! Laws of sbl_uses (specs/UsesLaws.antt, specs/EventsStay.antt), written out.
 
 ghost use Rattle.std.specs.Prelude.{◌≡◌, ℕ, List, length};
 ghost use Rattle.std.specs.List.{list_any};
@@ -8,11 +8,11 @@ ghost use Rattle.sbl_machine.specs.BuiltFrom.{is_affected_by};
 ghost use Rattle.sbl_semantics.specs.Outcome.{events_of};
 ghost use Rattle.sbl_semantics.specs.TouchedItems.{touched_items};
 ghost use Rattle.sbl_ast.specs.NamedParts.{Part'};
-ghost use Rattle.sbl_explain.specs.Unused.{unused_rows};
-ghost use Rattle.sbl_explain.specs.Used.{Usable, Whole, number_using, rows_using, takes_of, uses};
+ghost use Rattle.sbl_uses.specs.Unused.{unused_rows};
+ghost use Rattle.sbl_uses.specs.Used.{Usable, Whole, number_using, rows_using, takes_of, uses};
 ghost use Rattle.law_tests.specs.Uses.{MissesWhatDiffers, rows_of_zeros};
 
-use sbl_explain::laws::{
+use sbl_uses::laws::{
     counts_are_of_uses, takes_stay, unused_have_number_zero, uses_agree_with_traces,
 };
 

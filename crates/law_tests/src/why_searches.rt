@@ -1,4 +1,4 @@
-//! Laws of sbl_explain (specs/Searches.antt), written out.
+//! Laws of sbl_uses (specs/Searches.antt), written out.
 
 ghost use Rattle.std.specs.Prelude.{◌≡◌, ℕ, List, Option, Some, None};
 ghost use Rattle.sbl_semantics.specs.Meaning.{Offer};
@@ -9,12 +9,10 @@ ghost use Rattle.sbl_semantics.specs.Events.{Event'};
 ghost use Rattle.sbl_semantics.specs.State.{State};
 ghost use Rattle.sbl_ast.specs.Source.{Source};
 ghost use Rattle.sbl_ast.specs.declared.mode.Mode.{Mode};
-ghost use Rattle.sbl_explain.specs.Searches.{Call, AllRefused, OneTaken, IsSearch, first_length};
+ghost use Rattle.sbl_uses.specs.Searches.{Call, AllRefused, OneTaken, IsSearch, first_length};
 ghost use Rattle.law_tests.specs.Searches.{ArePlain, EachSearch, TookFirst, search_in};
 
-use sbl_explain::laws::{
-    each_search_takes_first, plain_searches_take_longest, searches_take_first,
-};
+use sbl_uses::laws::{each_search_takes_first, plain_searches_take_longest, searches_take_first};
 
 /// Needs the whole of the law `searches_take_first`.
 pub fn needs_searches_take_first()

@@ -31,7 +31,7 @@ use Rattle.sbl_bench.specs.Contents.{Contents}
 use Rattle.sbl_rows.specs.Rows.{row_of}
 use Rattle.sbl_rows.specs.Setting.{under}
 use Rattle.sbl_bench.specs.declared.fault.EditFault.TheVariants as edit
-use Rattle.sbl_reports.specs.RowRecords.{row_fields}
+use Rattle.sbl_records.specs.RowRecords.{row_fields}
 
 pub all_short-push : (lines : List (List ℕ)) (l : List ℕ) → AllShort lines → length (chars l) ≤ 255 → AllShort (lines ++ l ∷ [])
 all_short-push [] l h short = (short, tt)

@@ -24,7 +24,7 @@ use Rattle.sbl_io.specs.Records.{records_text}
 use Rattle.sbl_ast.specs.Source.{Source}
 use Rattle.sbl_input.specs.Loading.{IsInput, IsLoaded}
 use Rattle.sbl_input.specs.OneLoading.{IsToldByBytes, LoadingIsOne}
-use Rattle.sbl_reports.specs.RowRecords.{row_fields}
+use Rattle.sbl_records.specs.RowRecords.{row_fields}
 use Rattle.sbl_reports.specs.Listings.{stems_text}
 use Rattle.sbl_input.specs.declared.faults.LoadFault.{LoadFault}
 use Rattle.sbl_input.specs.declared.faults.LoadFault.TheVariants.{Open}

@@ -13,7 +13,7 @@ use Rattle.sbl_semantics.specs.Limit.{default_limit}
 use Rattle.sbl_semantics.specs.Outcome.{Outcome', run_of}
 use Rattle.sbl_io.specs.Records.{record_line, records_text}
 use Rattle.sbl_ast.specs.Source.{Source}
-use Rattle.sbl_reports.specs.RowRecords.{outcome_fields, row_fields}
+use Rattle.sbl_records.specs.RowRecords.{outcome_fields, row_fields}
 
 pub filtered-none : (s : Source) → filter_output s [] ≡ []
 unfolding filter_output

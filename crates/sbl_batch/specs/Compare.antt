@@ -14,8 +14,8 @@ use Rattle.sbl_input.specs.declared.faults.LoadFault.{LoadFault}
 use Rattle.sbl_input.specs.declared.faults.LoadFault.TheVariants.{Input, Open, Script}
 use Rattle.sbl_io.specs.Records.{records_text}
 use Rattle.sbl_io.specs.declared.faults.ServeFault.TheVariants as fault
-use Rattle.sbl_reports.specs.ItemRecords.{item_fields}
-use Rattle.sbl_reports.specs.Reports.{change_fields}
+use Rattle.sbl_records.specs.ItemRecords.{item_fields}
+use Rattle.sbl_records.specs.ChangeRecords.{change_fields}
 use Rattle.sbl_rows.specs.ChangedRows.{changed_rows}
 use Rattle.sbl_rows.specs.Changes.{Change, changes_of, view_changes}
 use Rattle.sbl_script.specs.Reading.{IsFaultOf, IsScriptOf}

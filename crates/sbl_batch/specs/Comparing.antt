@@ -4,7 +4,7 @@ use Rattle.sbl_batch.specs.Compare.{comparison_of, comparison_text, item_row, sc
 use Rattle.sbl_batch.specs.declared.comparison_rows.ComparisonRow.{ComparisonRow}
 use Rattle.sbl_batch.specs.declared.comparison_rows.ComparisonRow.TheVariants as row
 use Rattle.sbl_bench.specs.Contents.{Contents}
-use Rattle.sbl_reports.specs.Reports.{change_fields}
+use Rattle.sbl_records.specs.ChangeRecords.{change_fields}
 use Rattle.sbl_rows.specs.Changes.{Added, Change, Changed, Merged, Removed, Renamed, Split, view_change}
 use Rattle.sbl_semantics.specs.TouchedItems.{item_of}
 

@@ -16,7 +16,7 @@ use Rattle.sbl_io.specs.Records.{records_text}
 use Rattle.sbl_ast.specs.Source.{Source}
 use Rattle.sbl_reports.specs.Block.{point}
 use Rattle.sbl_input.specs.Loading.{IsInput, ReadsScript, TookFault, TookSource, TookWords, WordLines}
-use Rattle.sbl_reports.specs.RowRecords.{row_fields}
+use Rattle.sbl_records.specs.RowRecords.{row_fields}
 use Rattle.sbl_input.specs.declared.faults.LoadFault.{LoadFault}
 use Rattle.sbl_input.specs.declared.faults.LoadFault.TheVariants.{Input, Script, Open}
 

@@ -13,7 +13,7 @@ use Rattle.sbl_io.specs.HeldInput.{AllFit, Took, input_of}
 use Rattle.sbl_io.specs.Records.{record_line}
 use Rattle.sbl_io.specs.declared.lines.Lines.{Lines}
 use Rattle.sbl_io.specs.declared.faults.ServeFault.TheVariants as fault
-use Rattle.sbl_reports.specs.RowRecords.{row_fields}
+use Rattle.sbl_records.specs.RowRecords.{row_fields}
 use Rattle.sbl_rows.specs.Rows.{row_of}
 use Rattle.sbl_rows.specs.Setting.{under}
 use Rattle.sbl_semantics.specs.Limit.{default_limit, max_word_length}

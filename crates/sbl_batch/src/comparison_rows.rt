@@ -2,8 +2,8 @@
 ghost use Rattle.std.specs.Prelude.{◌≡◌, ◌++◌, ◌∷◌, [], IfOk, OnOk, map};
 ghost use Rattle.csv.specs.Records.{fields_of, partial_of};
 ghost use Rattle.sbl_rows.specs.Changes.{view_changes};
-ghost use Rattle.sbl_reports.specs.ItemRecords.{item_fields};
-ghost use Rattle.sbl_reports.specs.Reports.{change_fields};
+ghost use Rattle.sbl_records.specs.ItemRecords.{item_fields};
+ghost use Rattle.sbl_records.specs.ChangeRecords.{change_fields};
 ghost use Rattle.sbl_semantics.specs.TouchedItems.{item_of};
 ghost use Rattle.sbl_tree_diff.specs.ItemsIn.{items_in};
 ghost use Rattle.sbl_batch.specs.Compare as spec;
@@ -13,7 +13,7 @@ use crate::comparing::ScriptComparison;
 use csv::ByteRecord;
 use sbl_io::push_two;
 use sbl_machine::Item;
-use sbl_reports::{Record, records_text};
+use sbl_records::{Record, records_text};
 use sbl_rows::ChangeRow;
 use std::alloc::{AllocError, Global};
 

@@ -13,7 +13,7 @@ use crate::lines::{line_writer, push_line};
 use csv::Writer;
 use sbl_io::{ServeFault, Sink, TextBuffer, write_all};
 use sbl_machine::{DEFAULT_LIMIT, Machine, Meter, Table};
-use sbl_reports::outcome_fields;
+use sbl_records::outcome_fields;
 use std::alloc::{AllocError, Global};
 
 /// Rows are written after a run if the runs since the last write took more steps than this.

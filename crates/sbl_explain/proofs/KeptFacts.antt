@@ -24,11 +24,11 @@ use Rattle.sbl_semantics.specs.Differs.{differs}
 use Rattle.sbl_semantics.specs.Outcome.{touches_of}
 use Rattle.sbl_semantics.specs.TouchedItems.{Names', item_of_touch, names_of}
 use Rattle.sbl_ast.specs.NamedParts.{Part'}
-use Rattle.sbl_explain.specs.EventsStay.{TakesStay}
+use Rattle.sbl_uses.specs.EventsStay.{TakesStay}
 use Rattle.sbl_explain.specs.Kept.{Agrees, AreKept, AreTakenBy, IsListOf, Misses, Names, StayOutside, has_taken, row_words, view_list}
 use Rattle.sbl_explain.specs.TakeNumbers.{number_kept}
-use Rattle.sbl_explain.specs.Unused.{is_taken}
-use Rattle.sbl_explain.specs.Used.{Entry, Take, number_using, same_take, takes_of, uses}
+use Rattle.sbl_uses.specs.Unused.{is_taken}
+use Rattle.sbl_uses.specs.Used.{Entry, Take, number_using, same_take, takes_of, uses}
 use Rattle.sbl_explain.specs.WhyRows.{routine_names}
 use Rattle.sbl_explain.specs.declared.kept_words.KeptWord.{KeptWord}
 use Rattle.sbl_explain.specs.declared.kept_words.Taken.{Taken}

@@ -10,7 +10,7 @@ use Rattle.std.specs.Prelude.{OnOk, Result, Ok, Err}
 use Rattle.std.specs.declared.alloc.AllocError.{AllocError}
 use Rattle.sbl_io.specs.Reports.{TakesMore}
 use Rattle.sbl_io.proofs.Taking.{Leaves, leaves-less, takes-same, takes-then}
-use Rattle.sbl_explain.specs.Moments.{Moment, after, at_start}
+use Rattle.sbl_uses.specs.Moments.{Moment, after, at_start}
 use Rattle.sbl_explain.specs.WhyRows.{max_events, more_rows, outcome_row, row_of, rows_from, why_rows}
 
 -- the three parts, given the events that have a row and the number of the others

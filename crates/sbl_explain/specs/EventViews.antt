@@ -2,7 +2,7 @@
 use Rattle.std.specs.Prelude.{ℕ, List, [], ◌∷◌, ◌++◌, codes, decimal}
 use Rattle.std.specs.Str.{encode_utf8_all}
 use Rattle.sbl_semantics.specs.Events.{Event', Enters, Leaves, Searches, Finds, Puts}
-use Rattle.sbl_explain.specs.Moments as spec
+use Rattle.sbl_uses.specs.Moments as spec
 use Rattle.sbl_explain.specs.WhyRows.{place_fields, row_of}
 
 -- what the row of an event has of the time before it

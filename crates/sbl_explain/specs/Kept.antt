@@ -16,7 +16,7 @@ use Rattle.sbl_machine.specs.Marks.{has_item}
 use Rattle.sbl_semantics.specs.TouchedItems.{item_of, names_of}
 use Rattle.sbl_ast.specs.NamedParts.{Part', Among}
 use Rattle.sbl_semantics.specs.declared.item.Item.{Item}
-use Rattle.sbl_explain.specs.Used.{Entry, Take, same_take, uses}
+use Rattle.sbl_uses.specs.Used.{Entry, Take, same_take, uses}
 use Rattle.sbl_explain.specs.WhyRows.{routine_names}
 use Rattle.sbl_explain.specs.declared.kept_words.Taken.{Taken}
 use Rattle.sbl_explain.specs.declared.kept_words.KeptWord.{KeptWord}

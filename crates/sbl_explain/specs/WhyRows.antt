@@ -7,7 +7,7 @@ use Rattle.sbl_semantics.specs.TouchedItems.{names_of}
 use Rattle.sbl_io.specs.Records.{records_text}
 use Rattle.sbl_semantics.specs.Events.{Event', Enters, Leaves, Searches, Finds, Puts}
 use Rattle.sbl_semantics.specs.Names.{name_of}
-use Rattle.sbl_explain.specs.Moments.{Moment, after, at_start, depth_of, routine_of, string_taken}
+use Rattle.sbl_uses.specs.Moments.{Moment, after, at_start, depth_of, routine_of, string_taken}
 
 -- the names of the routines of a script, by their numbers
 abbrev pub routine_names : Setting → List (List ℕ)

@@ -1,7 +1,7 @@
 //! The words of a bench.
 
 ghost use Rattle.std.specs.Prelude.{◌≡◌, IfOk};
-ghost use Rattle.sbl_explain.specs.UnusedViews.{texts_of};
+ghost use Rattle.sbl_uses.specs.UnusedViews.{texts_of};
 
 use sbl_bench::Bench;
 use std::alloc::{AllocError, Global};

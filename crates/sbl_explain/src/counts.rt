@@ -1,22 +1,21 @@
 //! How many words use each part of a script.
 
-ghost use Rattle.std.specs.Prelude.{◌≡◌, ◌++◌, ◌∷◌, [], decimal, map, true, OnOk, IfOk};
-ghost use Rattle.csv.specs.Records.{fields_of, partial_of};
+ghost use Rattle.std.specs.Prelude.{◌≡◌, ◌++◌, ◌∷◌, [], map, OnOk, IfOk};
 ghost use Rattle.sbl_bench.specs.KeptRuns.{setting_of};
-ghost use Rattle.sbl_explain.specs.Counts as spec;
+ghost use Rattle.sbl_uses.specs.Counts as spec;
 ghost use Rattle.sbl_explain.specs.TakeNumbers.{KeepsNumbers};
-ghost use Rattle.sbl_explain.specs.UsableViews.{AreDefined, Defines, next_row, number_for, number_row, number_rows as rows_in, row_for, rows_text, view_usable, view_usables};
+ghost use Rattle.sbl_uses.specs.UsableViews.{view_usable, view_usables};
+ghost use Rattle.sbl_explain.specs.UsableViews.{AreDefined, Defines, next_row, number_for, number_row, number_rows as rows_in, row_for, rows_text};
 ghost use Rattle.sbl_explain.specs.Kept.{KeepsWords};
 
 use crate::kept_takes::KeptTakes;
 use crate::kept_words::KeptWord;
-use crate::take_counts::{TakeCounts, counts_by_words, number_taking};
-use crate::unused::{kind, push_place};
-use crate::usables::{Usable, own_item, usables_of};
+use crate::take_counts::counts_by_words;
 use csv::ByteRecord;
 use sbl_bench::Bench;
-use sbl_io::{push_number, push_text};
-use sbl_reports::{Record, records_text};
+use sbl_io::push_number;
+use sbl_records::{Record, records_text};
+use sbl_uses::{TakeCounts, Usable, number_taking, own_item, usables_of};
 use std::alloc::{AllocError, Global};
 
 /// A part of a script, and the number of words whose runs use it.
@@ -32,28 +31,6 @@ impl Record for Count<'_> {
     fn fill(&self, text: &mut String, csv_record: &mut ByteRecord) -> Result<(), AllocError> {
         self.usable.push_fields(text, csv_record)?;
         push_number(*text.allocator(), csv_record, self.words)
-    }
-}
-
-impl Usable<'_> {
-    /// Appends the fields of this part of a script. Returns `AllocError` if an allocation fails.
-    fn push_fields(&self, text: &mut String, csv_record: &mut ByteRecord) -> Result<(), AllocError>
-        requires { partial_of csv_record.old ≡ [] }
-        ensures fields { OnOk result (fields_of csv_record.new ≡ fields_of csv_record.old ++ spec.usable_row (view_usable self.now)) }
-        ensures partial { OnOk result (partial_of csv_record.new ≡ []) }
-    {
-        let alloc = *text.allocator();
-        match self {
-            Usable::Whole(item) => {
-                csv_record.push_field(kind(item).as_bytes())?;
-                push_place(alloc, csv_record, item)
-            }
-            Usable::Entry(among, string) => {
-                csv_record.push_field(b"entry")?;
-                push_place(alloc, csv_record, among)?;
-                push_text(text, csv_record, string)
-            }
-        }
     }
 }
 
@@ -76,7 +53,7 @@ fn number_using<'a>(
 }
 
 /// Appends a part of the script with its number of words. Returns `AllocError` if an allocation fails.
-#[tactic(auto, unfolding(crate::specs::Counts::count_row))]
+#[tactic(auto, unfolding(sbl_uses::specs::Counts::count_row))]
 fn push_count<'a>(
     alloc: Global,
     counts: &mut Vec<Count<'a>>,

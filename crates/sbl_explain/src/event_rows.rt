@@ -6,17 +6,17 @@ ghost use Rattle.sbl_semantics.specs.Outcome.{outcome_of};
 ghost use Rattle.sbl_io.specs.Records.{record_line, records_text};
 ghost use Rattle.sbl_io.specs.Reports.{TakesMore};
 ghost use Rattle.sbl_semantics.specs.Events.{Finds, event_of};
-ghost use Rattle.sbl_explain.specs.Moments.{after};
+ghost use Rattle.sbl_uses.specs.Moments.{after};
 ghost use Rattle.sbl_explain.specs.Places.{names_at};
 ghost use Rattle.sbl_explain.specs.EventViews.{fields_after, fields_before};
 ghost use Rattle.sbl_explain.specs.WhyRows as spec;
 
-use crate::moment::Moment;
 use csv::ByteRecord;
 use sbl_bench::Bench;
 use sbl_io::{Report, push_number, push_text};
 use sbl_machine::Outcome;
 use sbl_run_state::Event;
+use sbl_uses::Moment;
 use std::alloc::{AllocError, Global};
 
 /// Appends a signal. Returns `AllocError` if an allocation fails.

@@ -13,7 +13,6 @@ ghost use Rattle.sbl_explain.specs.Kept.{AreKept, HasItems, IsListOf, KeepsWords
 use crate::bench_words::words_of;
 use crate::kept_run::KeptRun;
 use crate::kept_words::{KeptWord, Taken, nameless_takes};
-use crate::laws::takes_stay;
 use crate::shared_takes::SharedTakes;
 use crate::takes::takes_by_words;
 use sbl_bench::{Bench, Row, differences};
@@ -21,6 +20,7 @@ use sbl_machine::laws::differing_agree;
 use sbl_machine::{Item, ScriptFault};
 use sbl_script::Script;
 use sbl_script::laws::is_well_declared;
+use sbl_uses::laws::takes_stay;
 use std::alloc::{AllocError, Global};
 use std::collections::BTreeSet;
 use std::rc::Rc;

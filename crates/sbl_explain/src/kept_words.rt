@@ -7,13 +7,13 @@ ghost use Rattle.sbl_bench.specs.Whys.{routine_name};
 ghost use Rattle.sbl_machine.specs.ItemRefs.{item_of_ref};
 ghost use Rattle.sbl_semantics.specs.TouchedItems.{same_item};
 ghost use Rattle.sbl_explain.specs.Kept.{has_taken, taken_of, view_list};
-ghost use Rattle.sbl_explain.specs.UnusedViews.{IsUnion, take_of, takes_in};
-ghost use Rattle.sbl_explain.specs.Used.{Take, same_take};
+ghost use Rattle.sbl_uses.specs.UnusedViews.{IsUnion, take_of, takes_in};
+ghost use Rattle.sbl_uses.specs.Used.{Take, same_take};
 ghost use Rattle.sbl_explain.specs.WhyRows.{routine_names};
 
-use crate::takes::{Takes, add_take};
 use sbl_bench::Bench;
 use sbl_machine::ItemRef;
+use sbl_uses::{Takes, add_take};
 use std::alloc::{AllocError, Global};
 use std::collections::BTreeSet;
 use std::rc::Rc;

@@ -1,37 +1,19 @@
 //! The strings that the runs of the words of a bench take.
 
-ghost use Rattle.std.specs.Prelude.{◌≡◌, ◌||◌, Bool, List, ℕ, map, OnOk, IfOk};
-ghost use Rattle.std.specs.List.{list_any};
+ghost use Rattle.std.specs.Prelude.{map, OnOk, IfOk};
 ghost use Rattle.sbl_bench.specs.KeptRuns.{setting_of};
-ghost use Rattle.sbl_machine.specs.ItemRefs.{item_of_ref};
 ghost use Rattle.sbl_semantics.specs.Events.{event_of};
-ghost use Rattle.sbl_explain.specs.Unused.{Take, takes_at, takes_from, takes_of};
-ghost use Rattle.sbl_explain.specs.UnusedViews.{HasTaken, IsUnion, takes_in, texts_of};
+ghost use Rattle.sbl_uses.specs.Unused.{takes_at, takes_from, takes_of};
+ghost use Rattle.sbl_uses.specs.UnusedViews.{HasTaken, IsUnion, takes_in, texts_of};
 ghost use Rattle.sbl_explain.specs.WhyRows.{routine_names};
-ghost use Rattle.sbl_explain.specs.Moments.{at_start};
+ghost use Rattle.sbl_uses.specs.Moments.{at_start};
 
-use crate::moment::Moment;
 use sbl_bench::Bench;
 use sbl_machine::ItemRef;
 use sbl_run_state::Event;
+use sbl_uses::{Moment, Takes, add_take};
 use std::alloc::{AllocError, Global};
 use std::collections::BTreeSet;
-
-/// Amongs, each with a string that is taken there.
-pub(crate) type Takes<'a> = BTreeSet<(ItemRef<'a>, Vec<char>)>;
-
-/// Adds an among and a string. Returns `AllocError` if an allocation fails.
-#[tactic(auto, using(crate::proofs::Sets::take_added))]
-pub(crate) fn add_take<'a>(
-    takes: &mut Takes<'a>,
-    among: ItemRef<'a>,
-    string: Vec<char>,
-) -> Result<(), AllocError>
-    ensures { OnOk result ((test : Take → Bool) → list_any test (takes_in takes.new) ≡ (test (item_of_ref among.entry, string.items) || list_any test (takes_in takes.old))) }
-{
-    takes.insert((among, string))?;
-    Ok(())
-}
 
 /// Adds what an event takes. Returns `AllocError` if an allocation fails, or if the number of an among is above `u64::MAX`: no
 /// routine has so many.

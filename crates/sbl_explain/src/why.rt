@@ -6,17 +6,16 @@ ghost use Rattle.sbl_bench.specs.declared.fault.EditFault.{EditFault as AnyFault
 ghost use Rattle.sbl_semantics.specs.Outcome.{outcome_of};
 ghost use Rattle.sbl_io.specs.Records.{records_text};
 ghost use Rattle.sbl_semantics.specs.Events.{event_of};
-ghost use Rattle.sbl_explain.specs.Moments.{at_start};
-ghost use Rattle.sbl_explain.specs.TakesRows.{TakesRows};
+ghost use Rattle.sbl_uses.specs.Moments.{at_start};
+ghost use Rattle.sbl_uses.specs.TakesRows.{TakesRows};
 ghost use Rattle.sbl_explain.specs.WhyRows as spec;
 
 use crate::event_rows::{push_event, push_more, push_outcome};
-use crate::moment::Moment;
-use crate::slices::first;
 use sbl_bench::{Bench, EditFault};
 use sbl_io::{Report, ReportLength, ReportText};
 use sbl_machine::Why;
 use sbl_run_state::Event;
+use sbl_uses::{Moment, first};
 use std::alloc::{AllocError, Global};
 
 /// No more events than this have a row.

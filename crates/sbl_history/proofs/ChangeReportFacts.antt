@@ -5,7 +5,7 @@ use Rattle.std.proofs.lemmas.List.{map-append}
 use Rattle.sbl_rows.specs.Changes.{Change}
 use Rattle.sbl_io.specs.Records.{record_line, records_text}
 use Rattle.sbl_history.specs.ChangeReports.{first_of_kind, is_of}
-use Rattle.sbl_reports.specs.Reports.{change_fields}
+use Rattle.sbl_records.specs.ChangeRecords.{change_fields}
 use Rattle.sbl_history.specs.declared.change_reports.ChangeKind.{ChangeKind}
 
 -- the rows of changes

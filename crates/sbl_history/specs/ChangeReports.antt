@@ -1,4 +1,4 @@
--- Short reports of what changed: how many changes there are of each kind, and the first ones of each kind.
+-- Reports of what changed: all changes, how many there are of each kind, and the first ones of each kind.
 use Rattle.std.specs.Prelude.{ℕ, Bool, List, [], ◌∷◌, ◌++◌, codes, map, take}
 use Rattle.std.specs.List.{count_by, filter}
 use denote.Enum.Bare.{sameb}
@@ -6,10 +6,15 @@ use Rattle.sbl_bench.specs.Contents.{Contents, rows_now}
 use Rattle.sbl_rows.specs.Changes.{Added, Change, Changed, Merged, Removed, Renamed, Split, changes_of}
 use Rattle.sbl_rows.specs.Rows.{Row}
 use Rattle.sbl_io.specs.Records.{records_text}
-use Rattle.sbl_reports.specs.Reports.{change_fields, figure_fields}
+use Rattle.sbl_records.specs.ChangeRecords.{change_fields}
+use Rattle.sbl_records.specs.FigureRecords.{figure_fields}
 use Rattle.sbl_history.specs.declared.change_reports.ChangeKind.{ChangeKind}
 use Rattle.sbl_history.specs.declared.change_reports.ChangeKind.TheVariants as kind
 use Rattle.sbl_history.specs.contracts.change_reports.ChangeKind as kinds
+
+-- a row for each change between some rows and those of the bench
+abbrev pub changes_text : List Row → Contents → List ℕ
+changes_text before s = records_text (map change_fields (changes_of before (rows_now s)))
 
 abbrev pub kind_of : Change → ChangeKind
 kind_of (Added word) = kind.Added

@@ -6,14 +6,13 @@ ghost use Rattle.sbl_rows.specs.Changes.{view_change, view_changes};
 ghost use Rattle.sbl_io.specs.Records as records;
 ghost use Rattle.sbl_io.specs.Records.{record_line};
 ghost use Rattle.sbl_history.specs.ChangeReports as spec;
-ghost use Rattle.sbl_reports.specs.Reports as reports;
-ghost use Rattle.sbl_reports.specs.Reports.{change_fields};
+ghost use Rattle.sbl_records.specs.ChangeRecords.{change_fields};
 
 use crate::few::changes_of_few;
 use csv::ByteRecord;
 use sbl_bench::{Bench, Row};
 use sbl_io::push_line;
-use sbl_reports::{Record, records_text};
+use sbl_records::{Record, records_text};
 use sbl_rows::ChangeRow;
 use std::alloc::{AllocError, Global};
 
@@ -78,7 +77,7 @@ fn count_of(kind: ChangeKind, found: &[ChangeRow<'_>]) -> usize
 ///
 /// Returns `AllocError` if an allocation fails.
 pub fn changes_text(alloc: Global, before: &[Row<'_>], bench: &Bench) -> Result<Vec<u8>, AllocError>
-    ensures { IfOk result (λ text. text.items ≡ reports.changes_text (map view_row before.now) (contents_of bench.now)) }
+    ensures { IfOk result (λ text. text.items ≡ spec.changes_text (map view_row before.now) (contents_of bench.now)) }
 {
     let rows = bench.rows()?;
     let found = changes_of_few(alloc, before, &rows)?;

@@ -12,7 +12,7 @@ use Rattle.sbl_rows.specs.Rows.{row_of}
 use Rattle.sbl_rows.specs.Setting.{under}
 use Rattle.sbl_io.specs.Records.{records_text}
 use Rattle.sbl_semantics.specs.Limit.{default_limit}
-use Rattle.sbl_reports.specs.RowRecords.{row_fields}
+use Rattle.sbl_records.specs.RowRecords.{row_fields}
 use Rattle.sbl_reports.specs.Listings.{stems_text}
 use Rattle.sbl_input.specs.VocabularyRows.{text_of_rows}
 use Rattle.sbl_input.specs.WordLists.{IsVocabulary, texts_of}

@@ -9,7 +9,7 @@ use Rattle.sbl_bench.specs.declared.fault.EditFault.{EditFault}
 use Rattle.sbl_io.specs.Records.{records_text}
 use Rattle.sbl_semantics.specs.Limit.{default_limit}
 use Rattle.sbl_input.specs.Loading.{IsInput, IsLoadFault}
-use Rattle.sbl_reports.specs.RowRecords.{row_fields}
+use Rattle.sbl_records.specs.RowRecords.{row_fields}
 use Rattle.sbl_reports.specs.Listings.{stems_text}
 use Rattle.sbl_input.specs.WordLists.{HoldsWords}
 use Rattle.sbl_input.specs.declared.loading.ParsedInput.{ParsedInput}

@@ -9,14 +9,14 @@ ghost use Rattle.sbl_rows.specs.Setting.{under};
 ghost use Rattle.sbl_io.specs.RecordsWritten.{HasWritten, Writes};
 ghost use Rattle.sbl_input.specs.WordLists.{texts_of};
 ghost use Rattle.std.specs.Prelude.{◌≡◌, ◌≤◌, [], None, length, IfOk, OnOk};
-ghost use Rattle.sbl_reports.specs.RowRecords.{row_fields};
+ghost use Rattle.sbl_records.specs.RowRecords.{row_fields};
 ghost use Rattle.sbl_script.specs.ParsedScript.{source_of};
 ghost use Rattle.sbl_machine.specs.MachineOf.{IsLinkedMachineOf};
 
 use indexmap::IndexSet;
 use sbl_bench::{MAX_WORDS, Row, WordKeys};
 use sbl_machine::{DEFAULT_LIMIT, Machine, Meter, Table};
-use sbl_reports::RecordWriter;
+use sbl_records::RecordWriter;
 use sbl_script::Script;
 use std::alloc::{AllocError, Global};
 use std::mem::forget;

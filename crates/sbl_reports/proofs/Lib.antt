@@ -1,8 +1,6 @@
 pub mod BlockFacts
-pub mod WriterFacts
 pub mod RowFacts
 pub mod FindFacts
 pub mod FamilyFacts
-pub mod RecordFacts
 pub mod StemFacts
 pub mod WordListFacts

@@ -4,8 +4,8 @@ use Prim.Native.Nat.{zero}
 use Rattle.std.proofs.lemmas.Option.{get_or_from_slice_get, slice_get_within}
 use Rattle.sbl_rows.specs.Rows.{Row}
 use Rattle.sbl_io.specs.Records.{record_line, records_text}
-use Rattle.sbl_reports.specs.RowRecords.{row_fields}
-use Rattle.sbl_reports.proofs.RecordFacts.{records_more}
+use Rattle.sbl_records.specs.RowRecords.{row_fields}
+use Rattle.sbl_records.proofs.RecordFacts.{records_more}
 
 -- one more row
 pub row_more : (rows : List Row) (i : ℕ) (row : Row) → slice_get rows i ≡ Some row

@@ -1,19 +1,10 @@
 -- The report of families.
-use Rattle.std.specs.Prelude.{ℕ, Bool, true, false, ◌==◌, ◌||◌, List, [], ◌∷◌, codes, decimal, map}
+use Rattle.std.specs.Prelude.{ℕ, Bool, true, false, ◌==◌, ◌||◌, List, [], ◌∷◌, map}
 use Rattle.std.specs.List.{filter, slice_split}
 use Rattle.sbl_bench.specs.Contents.{Contents, rows_now}
-use Rattle.sbl_rows.specs.Families.{FamilyResult, Under, Over, Pairs, Unknown, family_results}
+use Rattle.sbl_rows.specs.Families.{family_results}
 use Rattle.sbl_io.specs.Records.{records_text}
-use Rattle.sbl_reports.specs.RowRecords.{stem_fields}
-
-abbrev pub number_field : ℕ → List (List ℕ)
-number_field n = decimal n ∷ []
-
-abbrev pub result_fields : FamilyResult → List (List ℕ)
-result_fields (Under word stems) = codes "under" ∷ stem_fields word stems
-result_fields (Over stem words) = codes "over" ∷ stem_fields stem words
-result_fields (Pairs within apart across joined) = codes "pairs" ∷ decimal within ∷ decimal apart ∷ decimal across ∷ decimal joined ∷ []
-result_fields (Unknown number) = codes "unknown" ∷ decimal number ∷ []
+use Rattle.sbl_records.specs.FamilyRecords.{result_fields}
 
 -- a row for each result
 abbrev pub families_text : Contents → List (List (List ℕ)) → List ℕ

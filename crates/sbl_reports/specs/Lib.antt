@@ -1,8 +1,5 @@
 -- definitions that the contracts of public functions use
 pub mod Block
-pub mod RowRecords
-pub mod ItemRecords
-pub mod Blank
 pub mod Listings
 pub mod Lookups
 pub mod Reports

@@ -7,8 +7,8 @@ use Rattle.sbl_rows.specs.Classes.{class_with, classes_of, stem_of}
 use Rattle.sbl_bench.specs.Contents.{Contents, rows_now}
 use Rattle.sbl_bench.specs.Traces.{trace_of}
 use Rattle.sbl_io.specs.Records.{records_text}
-use Rattle.sbl_reports.specs.ItemRecords.{item_fields}
-use Rattle.sbl_reports.specs.RowRecords.{class_fields, row_fields}
+use Rattle.sbl_records.specs.ItemRecords.{item_fields}
+use Rattle.sbl_records.specs.RowRecords.{class_fields, row_fields}
 
 unfoldable pub stems_text : Contents → List ℕ
 stems_text s = records_text (map row_fields (rows_now s))

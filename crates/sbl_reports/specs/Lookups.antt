@@ -7,7 +7,7 @@ use Rattle.sbl_rows.specs.Classes.{classes_of, stem_of}
 use Rattle.sbl_rows.specs.Rows.{Row}
 use Rattle.sbl_bench.specs.Contents.{Contents, rows_now}
 use Rattle.sbl_io.specs.Records.{records_text}
-use Rattle.sbl_reports.specs.RowRecords.{class_fields, row_fields}
+use Rattle.sbl_records.specs.RowRecords.{class_fields, row_fields}
 
 -- whether a text contains another one
 abbrev pub contains_text : List ℕ → List ℕ → Bool

@@ -1,32 +1,13 @@
--- The reports of work: what changed since some rows, figures, and the largest classes.
+-- The reports of work: figures, and the largest classes.
 use Rattle.std.specs.Prelude.{ℕ, List, [], ◌∷◌, ◌++◌, codes, decimal, map}
-use Rattle.std.specs.Str.{encode_utf8_all}
 use Rattle.sbl_bench.specs.Contents.{Contents, rows_now}
-use Rattle.sbl_rows.specs.Changes.{Added, Change, Changed, Merged, Removed, Renamed, Split, changes_of}
 use Rattle.sbl_rows.specs.Largest.{largest_of}
-use Rattle.sbl_rows.specs.Rows.{Row}
 use Rattle.sbl_rows.specs.Stats.{Stats, stats_of}
 use Rattle.sbl_io.specs.Records.{records_text}
-use Rattle.sbl_reports.specs.RowRecords.{class_fields, outcome_fields, stem_fields}
-
--- ---- changes
-
-abbrev pub change_fields : Change → List (List ℕ)
-change_fields (Added word) = codes "added" ∷ encode_utf8_all word ∷ []
-change_fields (Removed word) = codes "removed" ∷ encode_utf8_all word ∷ []
-change_fields (Changed word before after) = codes "changed" ∷ encode_utf8_all word ∷ (outcome_fields before ++ outcome_fields after)
-change_fields (Split stem into) = codes "split" ∷ stem_fields stem into
-change_fields (Merged stem from) = codes "merged" ∷ stem_fields stem from
-change_fields (Renamed before after) = codes "renamed" ∷ stem_fields before (after ∷ [])
-
--- a row for each change between some rows and those of the bench
-abbrev pub changes_text : List Row → Contents → List ℕ
-changes_text before s = records_text (map change_fields (changes_of before (rows_now s)))
+use Rattle.sbl_records.specs.FigureRecords.{figure_fields}
+use Rattle.sbl_records.specs.RowRecords.{class_fields}
 
 -- ---- figures
-
-abbrev pub figure_fields : List ℕ → ℕ → List (List ℕ)
-figure_fields name number = name ∷ decimal number ∷ []
 
 abbrev pub word_figures : Stats → List (List (List ℕ))
 word_figures s = figure_fields (codes "words") s.words ∷ figure_fields (codes "refused") s.refused ∷ []

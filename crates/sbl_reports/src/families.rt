@@ -1,16 +1,14 @@
 //! Families: lists of words that belong together, and the report of how far their stems agree with that.
 ghost use Rattle.std.specs.Prelude.{◌≡◌, ◌++◌, ◌∷◌, [], ℕ, IfOk, List, OnOk, chars};
-ghost use Rattle.csv.specs.Records.{fields_of, partial_of};
 ghost use Rattle.sbl_bench.specs.KeptRuns.{contents_of};
-ghost use Rattle.sbl_rows.specs.Families.{view_result, view_words};
+ghost use Rattle.sbl_rows.specs.Families.{view_words};
 ghost use Rattle.sbl_rows.specs.Classes.{texts_of};
 ghost use Rattle.sbl_reports.specs.Families as spec;
 ghost use Rattle.sbl_reports.specs.FamilyReader.{families_read, read_by, read_on, with_word, words_read};
 
-use crate::records::{Record, push_named, records_text};
-use csv::ByteRecord;
 use sbl_bench::Bench;
-use sbl_rows::{FamilyRow, families};
+use sbl_records::records_text;
+use sbl_rows::families;
 use std::alloc::{AllocError, Global};
 
 /// The families that are being read: those of the lines before, the words of the current line, and the current word.
@@ -110,43 +108,6 @@ fn lists_of(alloc: Global, families: &[Vec<Vec<char>>]) -> Result<Vec<Vec<&[char
         lists.push(words)?;
     }
     Ok(lists)
-}
-
-/// Appends a number to a record, as one field of decimal digits that the allocator of the text has room for. Returns `AllocError`
-/// if an allocation fails.
-fn push_number(text: &String, csv_record: &mut ByteRecord, number: u128) -> Result<(), AllocError>
-    requires { partial_of csv_record.old ≡ [] }
-    ensures fields { OnOk result (fields_of csv_record.new ≡ fields_of csv_record.old ++ spec.number_field number) }
-    ensures partial { OnOk result (partial_of csv_record.new ≡ []) }
-{
-    let digits = format!(in *text.allocator(); "{number}")?;
-    csv_record.push_field(digits.as_bytes())
-}
-
-impl Record for FamilyRow<'_> {
-    ghost fields = { λ row. spec.result_fields (view_result row) };
-
-    fn fill(&self, text: &mut String, csv_record: &mut ByteRecord) -> Result<(), AllocError> {
-        match self {
-            FamilyRow::Under { word, stems } => {
-                push_named(text, csv_record, "under", word, stems)
-            }
-            FamilyRow::Over(class) => {
-                push_named(text, csv_record, "over", class.stem, &class.members)
-            }
-            FamilyRow::Pairs(pairs) => {
-                csv_record.push_field(b"pairs")?;
-                push_number(text, csv_record, pairs.within)?;
-                push_number(text, csv_record, pairs.apart)?;
-                push_number(text, csv_record, pairs.across)?;
-                push_number(text, csv_record, pairs.joined)
-            }
-            FamilyRow::Unknown(number) => {
-                csv_record.push_field(b"unknown")?;
-                push_number(text, csv_record, *number as u128)
-            }
-        }
-    }
 }
 
 /// Returns the report of lists of words over the rows of a bench. Returns `AllocError` if an allocation fails.

@@ -3,8 +3,8 @@ ghost use Rattle.std.specs.Prelude.{◌≡◌, IfOk};
 ghost use Rattle.sbl_bench.specs.KeptRuns.{contents_of};
 ghost use Rattle.sbl_reports.specs.Listings as spec;
 
-use crate::record_writer::RecordWriter;
 use sbl_bench::Bench;
+use sbl_records::RecordWriter;
 use std::alloc::{AllocError, Global};
 
 /// Returns the text of the rows of a bench, in vocabulary order, as `records_text` has it. Takes the rows one at a time, so it

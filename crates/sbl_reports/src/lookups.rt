@@ -7,8 +7,8 @@ ghost use Rattle.sbl_bench.specs.KeptRuns.{contents_of};
 ghost use Rattle.sbl_rows.specs.Rows.{view_row};
 ghost use Rattle.sbl_reports.specs.Lookups as spec;
 
-use crate::records::records_text;
 use sbl_bench::{Bench, Row};
+use sbl_records::records_text;
 use sbl_semantics::Outcome;
 use std::alloc::{AllocError, Global};
 

@@ -1,52 +1,21 @@
-//! The reports of work: a change as a record, figures, and the largest classes.
-ghost use Rattle.std.specs.Prelude.{◌≡◌, ◌++◌, [], IfOk, OnOk, map};
-ghost use Rattle.csv.specs.Records.{fields_of, partial_of};
+//! The reports of work: figures, and the largest classes.
+ghost use Rattle.std.specs.Prelude.{◌≡◌, ◌++◌, IfOk, OnOk};
 ghost use Rattle.sbl_bench.specs.KeptRuns.{contents_of};
-ghost use Rattle.sbl_rows.specs.Changes.{view_change};
 ghost use Rattle.sbl_rows.specs.Stats.{view_stats};
 ghost use Rattle.sbl_io.specs.Records.{record_line, records_text};
+ghost use Rattle.sbl_records.specs.FigureRecords.{figure_fields};
 ghost use Rattle.sbl_reports.specs.Reports as spec;
 
-use crate::records::{Record, push_named, records_text};
-use crate::row_records::push_outcome;
 use csv::ByteRecord;
 use sbl_bench::Bench;
 use sbl_io::push_line;
-use sbl_rows::{ChangeRow, RowStats, largest_classes, stats};
+use sbl_records::records_text;
+use sbl_rows::{RowStats, largest_classes, stats};
 use std::alloc::{AllocError, Global};
-
-impl Record for ChangeRow<'_> {
-    ghost fields = { λ change. spec.change_fields (view_change change) };
-
-    fn fill(&self, text: &mut String, csv_record: &mut ByteRecord) -> Result<(), AllocError> {
-        match self {
-            ChangeRow::Added(word) => push_named(text, csv_record, "added", word, &[]),
-            ChangeRow::Removed(word) => push_named(text, csv_record, "removed", word, &[]),
-            ChangeRow::Changed {
-                word,
-                before,
-                after,
-            } => {
-                push_named(text, csv_record, "changed", word, &[])?;
-                push_outcome(text, csv_record, *before)?;
-                push_outcome(text, csv_record, *after)
-            }
-            ChangeRow::Split(class) => {
-                push_named(text, csv_record, "split", class.stem, &class.members)
-            }
-            ChangeRow::Merged(class) => {
-                push_named(text, csv_record, "merged", class.stem, &class.members)
-            }
-            ChangeRow::Renamed { from, to } => {
-                push_named(text, csv_record, "renamed", from, &[*to])
-            }
-        }
-    }
-}
 
 /// Appends the line of a figure. Returns `AllocError` if an allocation fails.
 fn push_figure(alloc: Global, out: &mut Vec<u8>, name: &str, number: u64) -> Result<(), AllocError>
-    ensures { OnOk result (out.new.items ≡ out.old.items ++ record_line (spec.figure_fields name.now number)) }
+    ensures { OnOk result (out.new.items ≡ out.old.items ++ record_line (figure_fields name.now number)) }
 {
     let digits = format!(in alloc; "{number}")?;
     let mut csv_record = ByteRecord::new(alloc);

@@ -18,7 +18,7 @@ use Rattle.sbl_ast.specs.NamedParts.{Part'}
 use Rattle.sbl_io.specs.Records.{records_text}
 use Rattle.sbl_sessions.specs.Answers.{Enough, IsReport, Memory, RefusedAfter, edit_text}
 use Rattle.sbl_sessions.specs.CommandViews.{IsReply}
-use Rattle.sbl_reports.specs.RowRecords.{class_fields, row_fields}
+use Rattle.sbl_records.specs.RowRecords.{class_fields, row_fields}
 use Rattle.sbl_reports.specs.Listings.{class_text}
 use Rattle.sbl_reports.specs.inside.ListingParts.{class_or_row_text}
 use Rattle.sbl_reports.specs.inside.ItemTexts.{items_text}

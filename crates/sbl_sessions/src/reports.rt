@@ -18,7 +18,8 @@ use crate::session_edits::{MAX_LOOKED_AT, first_characters};
 use sbl_bench::laws::words_fit;
 use sbl_bench::{Bench, EditFault, Row};
 use sbl_machine::ItemRef;
-use sbl_reports::{records_text, records_text_in_one_pass, rows_text};
+use sbl_records::{records_text, records_text_in_one_pass};
+use sbl_reports::rows_text;
 use std::alloc::{AllocError, Global};
 use std::collections::BTreeSet;
 

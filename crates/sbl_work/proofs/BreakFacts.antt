@@ -12,7 +12,7 @@ use Rattle.sbl_history.specs.Editing.{IsLimitNoted, Replaces, ReplacesPart}
 use Rattle.sbl_history.specs.History.{EditKind, OfPart, OfScript, PastEdit, edit_of}
 use Rattle.sbl_history.specs.MayBreak.{EditsOrBreaksIf}
 use Rattle.sbl_history.specs.Refused.{RefusedText}
-use Rattle.sbl_history.specs.ChangeReports.{change_figures_text, first_changes_text}
+use Rattle.sbl_history.specs.ChangeReports.{change_figures_text, changes_text, first_changes_text}
 use Rattle.sbl_history.specs.Listing.{history_text}
 use Rattle.sbl_history.specs.declared.history.HistoryFault.{HistoryFault}
 use Rattle.sbl_history.specs.declared.history.HistoryFault.TheVariants as turn
@@ -20,11 +20,11 @@ use Rattle.sbl_input.specs.FileWords.{file_words}
 use Rattle.sbl_input.specs.declared.faults.LoadFault.TheVariants as load
 use Rattle.sbl_io.specs.declared.faults.ServeFault.TheVariants as serve
 use Rattle.sbl_ast.specs.NamedParts.{Part'}
-use Rattle.sbl_explain.specs.Counts.{counts_text}
-use Rattle.sbl_explain.specs.Unused.{unused_text}
+use Rattle.sbl_uses.specs.Counts.{counts_text}
+use Rattle.sbl_uses.specs.Unused.{unused_text}
 use Rattle.sbl_reports.specs.Block.{max_script}
 use Rattle.sbl_reports.specs.Lookups.{found_text}
-use Rattle.sbl_reports.specs.Reports.{changes_text, largest_text, stats_text}
+use Rattle.sbl_reports.specs.Reports.{largest_text, stats_text}
 use Rattle.sbl_reports.specs.StemLines.{stems_in}
 use Rattle.sbl_rows.specs.Rows.{Row}
 use Rattle.sbl_rows.specs.StemRows.{rows_with}

@@ -8,9 +8,9 @@ use Rattle.std.specs.declared.alloc.Global.{Global}
 use Rattle.std.specs.Str.{chars}
 use Rattle.sbl_bench.specs.Contents.{Contents}
 use Rattle.sbl_bench.specs.declared.fault.EditFault.TheVariants as edit
-use Rattle.sbl_explain.specs.Uses.{IsResult, OfAmong, OfName, OfString}
-use Rattle.sbl_explain.specs.declared.uses.UsesFault.{UsesFault}
-use Rattle.sbl_explain.specs.declared.uses.UsesFault.TheVariants as fault
+use Rattle.sbl_uses.specs.Uses.{IsResult, OfAmong, OfName, OfString}
+use Rattle.sbl_uses.specs.declared.uses.UsesFault.{UsesFault}
+use Rattle.sbl_uses.specs.declared.uses.UsesFault.TheVariants as fault
 use Rattle.sbl_sessions.specs.Answers.{Enough, edit_text, with_line_feed}
 use Rattle.sbl_sessions.specs.CommandViews.{IsReply}
 use Rattle.sbl_sessions.specs.Commands.{Bad}

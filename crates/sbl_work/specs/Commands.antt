@@ -3,7 +3,7 @@ use Rattle.std.specs.Prelude.{ℕ, Bool, false, ◌==◌, ◌||◌, List, [], �
 use Rattle.std.specs.Prelude.{length, nat_lt, zero, suc, Option, Some, None, Result, Ok, Err}
 use Rattle.std.specs.Option.{is_some, option_and_then, option_map_or}
 use Rattle.std.specs.Str.{bytes_eq, chars, is_utf8}
-use Rattle.sbl_explain.specs.Uses.{Question}
+use Rattle.sbl_uses.specs.Uses.{Question}
 use Rattle.sbl_io.specs.LinesOf.{lines_of}
 use Rattle.sbl_ast.specs.NamedParts.{Part'}
 use Rattle.sbl_reports.specs.Block.{made_text, max_script}

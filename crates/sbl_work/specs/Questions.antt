@@ -3,7 +3,7 @@ use Rattle.std.specs.Prelude.{ℕ, Bool, ◌==◌, List, [], Option, Some, None,
 use Rattle.std.specs.List.{list_any}
 use Rattle.std.specs.Option.{option_map}
 use Rattle.std.specs.Str.{chars}
-use Rattle.sbl_explain.specs.Uses.{Question, OfName, OfAmong, OfString}
+use Rattle.sbl_uses.specs.Uses.{Question, OfName, OfAmong, OfString}
 use Rattle.sbl_sessions.specs.Numbers.{number_in}
 use Rattle.sbl_sessions.specs.Words.{argument, command_word}
 

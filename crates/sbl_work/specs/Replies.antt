@@ -17,12 +17,12 @@ use Rattle.sbl_sessions.specs.Answers.{edit_text, with_line_feed}
 use Rattle.sbl_sessions.specs.CommandViews.{IsTextAnswer, IsTextBreak}
 use Rattle.sbl_sessions.specs.Commands.{Command}
 use Rattle.sbl_sessions.specs.EditFaults.{fault_in}
-use Rattle.sbl_explain.specs.Unused as unused
-use Rattle.sbl_explain.specs.Counts.{counts_text}
+use Rattle.sbl_uses.specs.Unused as unused
+use Rattle.sbl_uses.specs.Counts.{counts_text}
 use Rattle.sbl_explain.specs.Integers as integers
-use Rattle.sbl_explain.specs.Uses.{Question, uses_text}
-use Rattle.sbl_explain.specs.declared.uses.UsesFault.{UsesFault}
-use Rattle.sbl_explain.specs.declared.uses.UsesFault.TheVariants as uses
+use Rattle.sbl_uses.specs.Uses.{Question, uses_text}
+use Rattle.sbl_uses.specs.declared.uses.UsesFault.{UsesFault}
+use Rattle.sbl_uses.specs.declared.uses.UsesFault.TheVariants as uses
 use Rattle.sbl_explain.specs.WhyRows as rows
 use Rattle.sbl_work.specs.Commands.{WorkCommand, Nothing, Session, EditPart, EditWhole, Undo, Redo, Mark, Changes, Stats}
 use Rattle.sbl_work.specs.Commands.{Unused, Largest, Families, Why, Integers, Uses, Counts, Find, Stem, Show, Saved, NoWords, NoFile, Echo}
@@ -48,8 +48,8 @@ use Rattle.sbl_source_map.specs.Heads.{IsWithoutHead}
 use Rattle.sbl_text_rows.specs.PlaceRows.{IsPlacesText}
 use Rattle.sbl_text_rows.specs.TokenRows.{IsTokensText}
 use Rattle.sbl_reports.specs.Lookups.{found_text, stem_text}
-use Rattle.sbl_history.specs.ChangeReports.{change_figures_text, first_changes_text}
-use Rattle.sbl_reports.specs.Reports.{changes_text, largest_text, stats_text}
+use Rattle.sbl_history.specs.ChangeReports.{change_figures_text, changes_text, first_changes_text}
+use Rattle.sbl_reports.specs.Reports.{largest_text, stats_text}
 use Rattle.sbl_reports.specs.StemLines.{are_text, have_lines, stems_in}
 use Rattle.sbl_history.specs.declared.history.HistoryFault.{HistoryFault}
 use Rattle.sbl_history.specs.declared.history.HistoryFault.TheVariants as fault

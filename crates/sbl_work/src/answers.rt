@@ -5,7 +5,7 @@ ghost use Rattle.sbl_bench.specs.KeptRuns.{contents_of};
 ghost use Rattle.sbl_sessions.specs.{Answers.with_line_feed, Commands.line_command};
 ghost use Rattle.sbl_work.specs.Commands as spec;
 ghost use Rattle.sbl_history.specs.Desks.{State, state_of};
-ghost use Rattle.sbl_reports.specs.Reports as reports;
+ghost use Rattle.sbl_history.specs.ChangeReports as reports;
 ghost use Rattle.sbl_work.specs.Replies.{ReplacesKept};
 ghost use Rattle.sbl_work.specs.ReplyViews.{IsSessionAnswer, IsWorkAnswer, view_file};
 

@@ -3,7 +3,7 @@ ghost use Rattle.std.specs.Prelude.{◌≡◌, ◌⊎◌, Err, MatchOption, Some
 ghost use Rattle.std.specs.Option.{option_map_or};
 ghost use Rattle.std.specs.Str.{chars};
 ghost use Rattle.sbl_bench.specs.KeptRuns.{contents_of};
-ghost use Rattle.sbl_explain.specs.Uses.{OfString, question_of};
+ghost use Rattle.sbl_uses.specs.Uses.{OfString, question_of};
 ghost use Rattle.sbl_sessions.specs.Answers.{edit_text};
 ghost use Rattle.sbl_sessions.specs.CommandViews.{IsReply};
 ghost use Rattle.sbl_sessions.specs.Commands.{Bad};
@@ -17,9 +17,10 @@ ghost use Rattle.sbl_work.specs.ReplyViews.{IsWorkAnswer};
 use crate::replies::{NO_CLASS, NO_STRING, edit_reply};
 use crate::whys::characters_of;
 use sbl_bench::{Bench, EditFault};
-use sbl_explain::{KeptTakes, Question, UsesFault};
+use sbl_explain::KeptTakes;
 use sbl_reports::{found_text, stem_text};
 use sbl_sessions::{BAD_COMMAND, Reply, number_in, report};
+use sbl_uses::{Question, UsesFault};
 use std::alloc::Global;
 
 /// Returns the text before the first space of another one, and the text after that space if there is one.

@@ -5,7 +5,7 @@ use Rattle.sbl_rows.specs.Classes.{class_of}
 use Rattle.sbl_rows.specs.Rows.{Row}
 use Rattle.sbl_bench.specs.Contents.{Contents, rows_now}
 use Rattle.sbl_io.specs.Records.{records_text}
-use Rattle.sbl_reports.specs.RowRecords.{class_fields, row_fields}
+use Rattle.sbl_records.specs.RowRecords.{class_fields, row_fields}
 
 -- the record of a word's class, or of its row if its run is refused and it has no class
 abbrev pub class_or_row_text : Contents → List ℕ → Row → List ℕ

@@ -2,7 +2,7 @@ use Rattle.std.proofs.Common.{rules, ◌≡◌, ◌∙◌, ◌++◌, ◌∷◌, 
 use Rattle.sbl_batch.specs.Compare.{differs_rows, words_row}
 use Rattle.sbl_batch.specs.Comparing.{fields_in}
 use Rattle.sbl_batch.specs.declared.comparison_rows.ComparisonRow.{ComparisonRow}
-use Rattle.sbl_reports.specs.Reports.{change_fields}
+use Rattle.sbl_records.specs.ChangeRecords.{change_fields}
 use Rattle.sbl_rows.specs.Changes.{view_changes}
 use Rattle.sbl_rows.specs.declared.change.ChangeRow.{ChangeRow}
 use Rattle.sbl_tree_diff.specs.ItemsIn.{items_in}

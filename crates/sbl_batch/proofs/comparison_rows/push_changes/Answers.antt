@@ -1,4 +1,4 @@
-use Rattle.sbl_reports.specs.Reports.{change_fields}
+use Rattle.sbl_records.specs.ChangeRecords.{change_fields}
 use Rattle.sbl_rows.specs.Changes.{view_change}
 use Rattle.sbl_rows.proofs.Loops.{step_map}
 use Rattle.sbl_batch.proofs.comparison_rows.push_changes.Goals as goal

@@ -1,6 +1,6 @@
 use Rattle.std.proofs.Common.{◌≡◌, ◌++◌, drop, map}
 use Rattle.sbl_batch.specs.Comparing.{fields_in}
-use Rattle.sbl_reports.specs.Reports.{change_fields}
+use Rattle.sbl_records.specs.ChangeRecords.{change_fields}
 use Rattle.sbl_rows.specs.Changes.{view_changes}
 use Rattle.sbl_batch.proofs.comparison_rows.push_changes.Given as goal
 

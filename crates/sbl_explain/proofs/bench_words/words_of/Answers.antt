@@ -3,7 +3,7 @@ use Rattle.std.proofs.Math.ListN.{drop_of_length-le}
 use Rattle.std.proofs.lemmas.List.{append-nil}
 use Rattle.sbl_bench.specs.KeptRuns.{setting_of}
 use Rattle.sbl_rows.specs.declared.row.Row as declared
-use Rattle.sbl_explain.specs.UnusedViews.{texts_of}
+use Rattle.sbl_uses.specs.UnusedViews.{texts_of}
 use Rattle.sbl_explain.proofs.RowWords.{row_word, words_are}
 use Rattle.sbl_explain.proofs.bench_words.words_of.Goals as goal
 

@@ -1,6 +1,6 @@
 use Rattle.std.proofs.Common.{◌≡◌, ◌++◌, drop, map}
 use Rattle.sbl_explain.proofs.RowWords.{row_word}
-use Rattle.sbl_explain.specs.UnusedViews.{texts_of}
+use Rattle.sbl_uses.specs.UnusedViews.{texts_of}
 use Rattle.sbl_explain.proofs.bench_words.words_of.Given as goal
 
 abbrev pub invariant-loop-row : goal.invariant-loop-row

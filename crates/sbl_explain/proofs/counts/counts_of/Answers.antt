@@ -1,8 +1,9 @@
 use Rattle.std.proofs.Common.{◌+◌, ap, drop, map}
 use Rattle.sbl_bench.specs.KeptRuns.{setting_of}
-use Rattle.sbl_explain.specs.UsableViews.{is_defined, number_rows, row_for, view_usable, view_usables}
-use Rattle.sbl_explain.proofs.Loops.{at_index}
-use Rattle.sbl_explain.proofs.UserFacts.{all_at, one_more}
+use Rattle.sbl_uses.specs.UsableViews.{is_defined, view_usable, view_usables}
+use Rattle.sbl_explain.specs.UsableViews.{number_rows, row_for}
+use Rattle.sbl_uses.proofs.Loops.{at_index}
+use Rattle.sbl_uses.proofs.UserFacts.{all_at, one_more}
 use Rattle.sbl_explain.proofs.counts.counts_of.Goals as goal
 
 pub loop-usable-preserved : goal.loop-usable-preserved

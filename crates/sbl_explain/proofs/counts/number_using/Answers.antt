@@ -1,9 +1,9 @@
 use Rattle.std.proofs.Common.{rules, ◌≡◌, ap, length}
 use Rattle.sbl_machine.specs.ItemRefs.{item_of_ref}
 use Rattle.sbl_semantics.specs.TouchedItems.{item_of}
-use Rattle.sbl_explain.specs.UsableViews.{view_usable}
-use Rattle.sbl_explain.specs.Used.{Whole}
-use Rattle.sbl_explain.proofs.UserFacts.{number_whole}
+use Rattle.sbl_uses.specs.UsableViews.{view_usable}
+use Rattle.sbl_uses.specs.Used.{Whole}
+use Rattle.sbl_explain.proofs.BenchUses.{number_whole}
 use Rattle.sbl_explain.proofs.counts.number_using.Goals as goal
 
 pub returns-in_ok-rows-in-Whole : goal.returns-in_ok-rows-in-Whole

@@ -3,7 +3,8 @@ use Rattle.sbl_rows.proofs.Ranging.{if_ok_weaker}
 use Rattle.sbl_bench.specs.KeptRuns.{setting_of}
 use Rattle.sbl_io.specs.Records.{records_text}
 use Rattle.sbl_explain.specs.TakeNumbers.{KeepsNumbers}
-use Rattle.sbl_explain.specs.UsableViews.{number_rows, row_for, view_usables}
+use Rattle.sbl_uses.specs.UsableViews.{view_usables}
+use Rattle.sbl_explain.specs.UsableViews.{number_rows, row_for}
 use Rattle.sbl_explain.specs.declared.counts.Count.{Count}
 use Rattle.sbl_explain.proofs.KeptFacts.{number_is}
 use Rattle.sbl_explain.proofs.counts.text_of_counts.Goals as goal

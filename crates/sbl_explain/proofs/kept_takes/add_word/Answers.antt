@@ -2,7 +2,7 @@ use Rattle.std.proofs.Common.{◌∙◌, List, ℕ, ap}
 use Rattle.std.specs.Borrow.{Bor}
 use Rattle.std.specs.List.{list_any}
 use Rattle.std.specs.Str.{bytes_eq}
-use Rattle.sbl_explain.specs.UnusedViews.{texts_of}
+use Rattle.sbl_uses.specs.UnusedViews.{texts_of}
 use Rattle.sbl_explain.proofs.KeptSets.{word_added}
 use Rattle.sbl_explain.proofs.kept_takes.add_word.Goals as goal
 

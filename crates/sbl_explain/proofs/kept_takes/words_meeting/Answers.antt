@@ -13,8 +13,8 @@ use Rattle.sbl_ast.specs.NamedParts.{Part'}
 use Rattle.sbl_semantics.specs.declared.item.Item.{Item}
 use Rattle.sbl_explain.specs.Kept.{is_one_of, row_words}
 use Rattle.sbl_explain.proofs.KeptFacts.{one_met, or_clear, row_missed}
-use Rattle.sbl_explain.proofs.Loops.{at_prefix}
-use Rattle.sbl_explain.proofs.UserFacts.{all_at}
+use Rattle.sbl_uses.proofs.Loops.{at_prefix}
+use Rattle.sbl_uses.proofs.UserFacts.{all_at}
 use Rattle.sbl_explain.proofs.kept_takes.words_meeting.Goals as goal
 
 pub loop-item-preserved : goal.loop-item-preserved

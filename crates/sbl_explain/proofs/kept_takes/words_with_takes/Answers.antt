@@ -3,14 +3,14 @@ use Rattle.std.specs.Borrow.{Bor}
 use Rattle.sbl_bench.specs.KeptRuns.{setting_of}
 use Rattle.sbl_bench.specs.Vocabulary.{is_word}
 use Rattle.sbl_explain.specs.Kept.{has_taken, kept_words}
-use Rattle.sbl_explain.specs.UnusedViews.{texts_of}
-use Rattle.sbl_explain.specs.Used.{Entry, Take, uses}
+use Rattle.sbl_uses.specs.UnusedViews.{texts_of}
+use Rattle.sbl_uses.specs.Used.{Entry, Take, uses}
 use Rattle.sbl_explain.specs.WhyRows.{routine_names}
 use Rattle.sbl_explain.specs.declared.kept_words.KeptWord.{KeptWord}
 use Rattle.sbl_explain.proofs.KeptFacts.{mapped_more}
-use Rattle.sbl_explain.proofs.Loops.{at_index}
-use Rattle.sbl_explain.proofs.Unions.{word_at}
-use Rattle.sbl_explain.proofs.UserFacts.{one_more}
+use Rattle.sbl_uses.proofs.Loops.{at_index}
+use Rattle.sbl_explain.proofs.BenchWords.{word_at}
+use Rattle.sbl_uses.proofs.UserFacts.{one_more}
 use Rattle.sbl_explain.proofs.kept_takes.words_with_takes.Goals as goal
 
 pub loop-word-preserved : goal.loop-word-preserved

@@ -2,8 +2,8 @@ use Rattle.std.proofs.Common.{◌≡◌, ◌++◌, ℕ, List, drop, map}
 use Rattle.sbl_bench.specs.KeptRuns.{setting_of}
 use Rattle.sbl_rows.specs.Setting.{Setting}
 use Rattle.sbl_explain.specs.Kept.{AreKept, StayKept, has_taken, kept_words}
-use Rattle.sbl_explain.specs.UnusedViews.{texts_of}
-use Rattle.sbl_explain.specs.Used.{Entry, Take, uses}
+use Rattle.sbl_uses.specs.UnusedViews.{texts_of}
+use Rattle.sbl_uses.specs.Used.{Entry, Take, uses}
 use Rattle.sbl_explain.specs.WhyRows.{routine_names}
 use Rattle.sbl_explain.proofs.kept_takes.words_with_takes.Given as goal
 

@@ -2,8 +2,8 @@ use Rattle.std.proofs.Common.{◌≡◌, ◌||◌, Bool, drop}
 use Rattle.std.specs.List.{list_any}
 use Rattle.sbl_bench.specs.KeptRuns.{setting_of}
 use Rattle.sbl_explain.specs.Kept.{view_list}
-use Rattle.sbl_explain.specs.UnusedViews.{takes_in}
-use Rattle.sbl_explain.specs.Used.{Take}
+use Rattle.sbl_uses.specs.UnusedViews.{takes_in}
+use Rattle.sbl_uses.specs.Used.{Take}
 use Rattle.sbl_explain.specs.WhyRows.{routine_names}
 use Rattle.sbl_explain.proofs.kept_words.add_list.Given as goal
 

@@ -3,7 +3,7 @@ use Rattle.std.specs.List.{list_any}
 use Rattle.sbl_machine.specs.ItemRefs.{item_of_ref}
 use Rattle.sbl_bench.specs.KeptRuns.{setting_of}
 use Rattle.sbl_explain.specs.Kept.{view_list}
-use Rattle.sbl_explain.specs.Used.{same_take}
+use Rattle.sbl_uses.specs.Used.{same_take}
 use Rattle.sbl_explain.specs.WhyRows.{routine_names}
 use Rattle.sbl_explain.proofs.kept_words.is_in_list.Given as goal
 

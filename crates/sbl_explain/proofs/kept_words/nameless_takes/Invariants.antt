@@ -1,7 +1,7 @@
 use Rattle.std.proofs.Common.{◌≡◌, ◌++◌, map}
 use Rattle.sbl_bench.specs.KeptRuns.{setting_of}
 use Rattle.sbl_explain.specs.Kept.{view_list}
-use Rattle.sbl_explain.specs.UnusedViews.{take_of}
+use Rattle.sbl_uses.specs.UnusedViews.{take_of}
 use Rattle.sbl_explain.specs.WhyRows.{routine_names}
 use Rattle.sbl_explain.proofs.kept_words.nameless_takes.Given as goal
 

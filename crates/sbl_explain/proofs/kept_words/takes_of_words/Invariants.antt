@@ -2,8 +2,8 @@ use Rattle.std.proofs.Common.{◌≡◌, ◌||◌, drop}
 use Rattle.std.specs.List.{list_any}
 use Rattle.sbl_bench.specs.KeptRuns.{setting_of}
 use Rattle.sbl_explain.specs.Kept.{has_taken}
-use Rattle.sbl_explain.specs.UnusedViews.{takes_in}
-use Rattle.sbl_explain.specs.Used.{Take, same_take}
+use Rattle.sbl_uses.specs.UnusedViews.{takes_in}
+use Rattle.sbl_uses.specs.Used.{Take, same_take}
 use Rattle.sbl_explain.specs.WhyRows.{routine_names}
 use Rattle.sbl_explain.proofs.kept_words.takes_of_words.Given as goal
 

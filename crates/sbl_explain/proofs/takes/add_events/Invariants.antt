@@ -2,9 +2,9 @@ use Rattle.std.proofs.Common.{◌≡◌, ◌||◌, Bool, drop, map}
 use Rattle.std.specs.List.{list_any}
 use Rattle.sbl_bench.specs.KeptRuns.{setting_of}
 use Rattle.sbl_semantics.specs.Events.{event_of}
-use Rattle.sbl_explain.specs.Unused.{Take, takes_from}
-use Rattle.sbl_explain.specs.UnusedViews.{takes_in}
-use Rattle.sbl_explain.specs.Moments.{at_start}
+use Rattle.sbl_uses.specs.Unused.{Take, takes_from}
+use Rattle.sbl_uses.specs.UnusedViews.{takes_in}
+use Rattle.sbl_uses.specs.Moments.{at_start}
 use Rattle.sbl_semantics.specs.TouchedItems.{names_of}
 use Rattle.sbl_explain.proofs.takes.add_events.Given as goal
 

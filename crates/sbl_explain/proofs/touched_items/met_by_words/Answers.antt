@@ -4,7 +4,7 @@ use Rattle.sbl_bench.specs.KeptRuns.{setting_of}
 use Rattle.sbl_machine.specs.BuiltFrom.{is_affected_by}
 use Rattle.sbl_machine.specs.ItemRefs.{items_of_refs}
 use Rattle.sbl_script.specs.ParsedScript.{ParsedScript, source_of}
-use Rattle.sbl_explain.proofs.Unions.{met_words}
+use Rattle.sbl_uses.proofs.Unions.{met_words}
 use Rattle.sbl_explain.proofs.touched_items.met_by_words.Goals as goal
 
 pub returns : goal.returns

@@ -5,9 +5,10 @@ use Rattle.sbl_bench.specs.KeptRuns.{setting_of}
 use Rattle.sbl_bench.specs.Vocabulary.{is_word}
 use Rattle.sbl_machine.specs.ItemRefs.{items_of_refs}
 use Rattle.sbl_semantics.specs.TouchedItems.{touched_items}
-use Rattle.sbl_explain.specs.UnusedViews.{texts_of}
-use Rattle.sbl_explain.proofs.Loops.{at_index}
-use Rattle.sbl_explain.proofs.Unions.{or_prefix, word_at}
+use Rattle.sbl_uses.specs.UnusedViews.{texts_of}
+use Rattle.sbl_uses.proofs.Loops.{at_index}
+use Rattle.sbl_uses.proofs.Unions.{or_prefix}
+use Rattle.sbl_explain.proofs.BenchWords.{word_at}
 use Rattle.sbl_explain.proofs.touched_items.touched_by_words.Goals as goal
 
 pub loop-word-preserved : goal.loop-word-preserved

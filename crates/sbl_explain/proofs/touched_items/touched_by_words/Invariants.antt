@@ -4,7 +4,7 @@ use Rattle.sbl_bench.specs.KeptRuns.{setting_of}
 use Rattle.sbl_machine.specs.ItemRefs.{items_of_refs}
 use Rattle.sbl_semantics.specs.TouchedItems.{touched_items}
 use Rattle.sbl_ast.specs.NamedParts.{Part'}
-use Rattle.sbl_explain.specs.UnusedViews.{texts_of}
+use Rattle.sbl_uses.specs.UnusedViews.{texts_of}
 use Rattle.sbl_explain.proofs.touched_items.touched_by_words.Given as goal
 
 abbrev pub invariant-loop-word : goal.invariant-loop-word

@@ -3,10 +3,10 @@ use Rattle.std.specs.Borrow.{Bor}
 use Rattle.std.specs.Prelude.{IfOk}
 use Rattle.sbl_bench.specs.KeptRuns.{setting_of}
 use Rattle.sbl_script.specs.ParsedScript.{ParsedScript, source_of}
-use Rattle.sbl_explain.specs.Parts.{Part, parts_of}
-use Rattle.sbl_explain.specs.TakesRows.{parts_text}
-use Rattle.sbl_explain.specs.Unused.{unused_text}
-use Rattle.sbl_explain.specs.UnusedViews.{HasMet, HasTaken, parts_in, texts_of}
+use Rattle.sbl_uses.specs.Parts.{Part, parts_of}
+use Rattle.sbl_uses.specs.TakesRows.{parts_text}
+use Rattle.sbl_uses.specs.Unused.{unused_text}
+use Rattle.sbl_uses.specs.UnusedViews.{HasMet, HasTaken, parts_in, texts_of}
 use Rattle.sbl_explain.proofs.KeptFacts.{taken_is}
 use Rattle.sbl_explain.proofs.unused.text_of_unused.Goals as goal
 

@@ -5,7 +5,7 @@ use Rattle.sbl_bench.specs.KeptRuns.{setting_of}
 use Rattle.sbl_machine.specs.ItemRefs.{item_of_ref}
 use Rattle.sbl_rows.specs.Rows.{Row, rows_of, view_row}
 use Rattle.sbl_rows.specs.declared.row.Row as declared
-use Rattle.sbl_explain.specs.Used.{Entry, Take, uses}
+use Rattle.sbl_uses.specs.Used.{Entry, Take, uses}
 use Rattle.sbl_explain.proofs.KeptFacts.{rows_match}
 use Rattle.sbl_explain.proofs.uses.rows_taking.Goals as goal
 

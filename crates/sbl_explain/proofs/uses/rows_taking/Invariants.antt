@@ -6,7 +6,7 @@ use Rattle.sbl_machine.specs.ItemRefs.{item_of_ref}
 use Rattle.sbl_rows.specs.Rows.{Row, view_row}
 use Rattle.sbl_explain.specs.Kept.{KeepsWords, has_taken}
 use Rattle.sbl_explain.specs.UsableViews.{rows_for}
-use Rattle.sbl_explain.specs.Used.{Entry, uses}
+use Rattle.sbl_uses.specs.Used.{Entry, uses}
 use Rattle.sbl_explain.specs.WhyRows.{routine_names}
 use Rattle.sbl_explain.proofs.uses.rows_taking.Given as goal
 

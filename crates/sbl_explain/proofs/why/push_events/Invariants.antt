@@ -3,7 +3,7 @@ use Rattle.sbl_bench.specs.KeptRuns.{setting_of}
 use Rattle.sbl_io.specs.Records.{records_text}
 use Rattle.sbl_io.proofs.Taking.{Leaves}
 use Rattle.sbl_semantics.specs.Events.{event_of}
-use Rattle.sbl_explain.specs.Moments.{at_start}
+use Rattle.sbl_uses.specs.Moments.{at_start}
 use Rattle.sbl_explain.specs.WhyRows as spec
 use Rattle.sbl_explain.proofs.why.push_events.Given as goal
 

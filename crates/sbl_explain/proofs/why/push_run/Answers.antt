@@ -5,7 +5,7 @@ use Rattle.sbl_io.specs.Records.{records_text}
 use Rattle.sbl_io.specs.Reports.{TakesMore}
 use Rattle.sbl_semantics.specs.Events.{event_of}
 use Rattle.sbl_semantics.specs.declared.event.Event.{Event}
-use Rattle.sbl_explain.specs.Moments.{at_start}
+use Rattle.sbl_uses.specs.Moments.{at_start}
 use Rattle.sbl_explain.specs.WhyRows.{max_events, more_rows, routine_names, rows_from}
 use Rattle.sbl_explain.proofs.WhyLines.{run_taken}
 use Rattle.sbl_explain.proofs.why.push_run.Goals as goal

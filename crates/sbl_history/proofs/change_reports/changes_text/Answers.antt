@@ -5,8 +5,8 @@ use Rattle.sbl_bench.specs.KeptRuns.{contents_of, setting_of}
 use Rattle.sbl_rows.specs.Changes.{Change, changes_of, view_change, view_changes}
 use Rattle.sbl_rows.specs.Rows.{view_rows}
 use Rattle.sbl_io.specs.Records.{records_text}
-use Rattle.sbl_reports.specs.Reports.{change_fields}
-use Rattle.sbl_reports.proofs.RecordFacts.{seen_lines}
+use Rattle.sbl_records.specs.ChangeRecords.{change_fields}
+use Rattle.sbl_records.proofs.RecordFacts.{seen_lines}
 use Rattle.sbl_history.proofs.change_reports.changes_text.Goals as goal
 
 pub returns : goal.returns

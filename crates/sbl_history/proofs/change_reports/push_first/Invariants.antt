@@ -1,7 +1,7 @@
 use Rattle.std.proofs.Common.{◌≡◌, ◌++◌, drop, map}
 use Rattle.sbl_rows.specs.Changes.{view_changes}
 use Rattle.sbl_io.specs.Records.{records_text}
-use Rattle.sbl_reports.specs.Reports.{change_fields}
+use Rattle.sbl_records.specs.ChangeRecords.{change_fields}
 use Rattle.sbl_history.specs.ChangeReports.{first_of_kind}
 use Rattle.sbl_history.proofs.change_reports.push_first.Given as goal
 

@@ -1,7 +1,7 @@
 use Rattle.std.proofs.Common.{ap}
 use Rattle.sbl_rows.specs.Rows.{Row}
-use Rattle.sbl_reports.specs.RowRecords.{row_fields}
-use Rattle.sbl_reports.proofs.WriterFacts.{writes_same}
+use Rattle.sbl_records.specs.RowRecords.{row_fields}
+use Rattle.sbl_records.proofs.WriterFacts.{writes_same}
 use Rattle.sbl_input.proofs.vocabulary_rows.write_row.Goals as goal
 
 pub returns : goal.returns

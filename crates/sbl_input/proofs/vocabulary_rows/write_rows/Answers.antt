@@ -7,8 +7,8 @@ use Rattle.sbl_rows.specs.Setting.{under}
 use Rattle.sbl_semantics.specs.Limit.{default_limit}
 use Rattle.sbl_io.specs.Records.{record_line, records_text}
 use Rattle.sbl_io.specs.RecordsWritten.{HasWritten}
-use Rattle.sbl_reports.specs.RowRecords.{row_fields}
-use Rattle.sbl_reports.proofs.RecordFacts.{records_more}
+use Rattle.sbl_records.specs.RowRecords.{row_fields}
+use Rattle.sbl_records.proofs.RecordFacts.{records_more}
 use Rattle.sbl_input.proofs.VocabularyFacts.{fields_in, rows_fused, short_word}
 use Rattle.sbl_input.proofs.vocabulary_rows.write_rows.Goals as goal
 

@@ -4,10 +4,10 @@ use Rattle.std.specs.Option.{option_map}
 use Rattle.sbl_bench.specs.Contents.{rows_now}
 use Rattle.sbl_bench.specs.KeptRuns.{contents_of, setting_of}
 use Rattle.sbl_rows.specs.Rows.{Row, row_of, view_row}
-use Rattle.sbl_reports.specs.RowRecords.{row_fields}
+use Rattle.sbl_records.specs.RowRecords.{row_fields}
 use Rattle.sbl_reports.specs.Listings.{stems_text}
 use Rattle.sbl_io.specs.RecordsWritten.{HasWritten}
-use Rattle.sbl_reports.specs.declared.record_writer.RecordWriter.{RecordWriter}
+use Rattle.sbl_records.specs.declared.record_writer.RecordWriter.{RecordWriter}
 use Rattle.sbl_io.specs.Records.{records_text}
 use Rattle.sbl_reports.proofs.RowFacts.{no_row, row_more}
 use Rattle.sbl_reports.proofs.listings.rows_text.Goals as goal

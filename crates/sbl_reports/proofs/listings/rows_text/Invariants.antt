@@ -1,7 +1,7 @@
 use Rattle.std.proofs.Common.{map, take}
 use Rattle.sbl_bench.specs.Contents.{rows_now}
 use Rattle.sbl_bench.specs.KeptRuns.{contents_of}
-use Rattle.sbl_reports.specs.RowRecords.{row_fields}
+use Rattle.sbl_records.specs.RowRecords.{row_fields}
 use Rattle.sbl_io.specs.RecordsWritten.{HasWritten}
 use Rattle.sbl_io.specs.Records.{records_text}
 use Rattle.sbl_reports.proofs.listings.rows_text.Given as goal

@@ -2,8 +2,8 @@ use Rattle.std.proofs.Common.{◌∙◌, List, ap, map}
 use Rattle.std.proofs.lemmas.Result.{IfOk-weaker}
 use Rattle.sbl_rows.specs.Rows.{Row, view_row}
 use Rattle.sbl_io.specs.Records.{records_text}
-use Rattle.sbl_reports.specs.RowRecords.{row_fields}
-use Rattle.sbl_reports.proofs.RecordFacts.{seen_lines}
+use Rattle.sbl_records.specs.RowRecords.{row_fields}
+use Rattle.sbl_records.proofs.RecordFacts.{seen_lines}
 use Rattle.sbl_reports.proofs.lookups.found_text.Goals as goal
 
 pub returns : goal.returns

@@ -2,8 +2,8 @@ use Rattle.std.proofs.Common.{◌≡◌, IfOk, map, rules}
 use Rattle.std.proofs.lemmas.Result.{IfOk-weaker}
 use Rattle.sbl_rows.specs.Classes.{view_stem_class, view_stem_classes}
 use Rattle.sbl_io.specs.Records.{records_text}
-use Rattle.sbl_reports.specs.RowRecords.{class_fields}
-use Rattle.sbl_reports.proofs.RecordFacts.{seen_lines}
+use Rattle.sbl_records.specs.RowRecords.{class_fields}
+use Rattle.sbl_records.proofs.RecordFacts.{seen_lines}
 use Rattle.sbl_reports.proofs.reports.largest_text.Goals as goal
 
 pub returns : goal.returns

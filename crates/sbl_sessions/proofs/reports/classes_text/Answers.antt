@@ -3,7 +3,7 @@ use Rattle.sbl_bench.specs.Contents.{rows_now}
 use Rattle.sbl_bench.specs.KeptRuns.{contents_of}
 use Rattle.sbl_rows.specs.Classes.{Class, classes_of, view_class}
 use Rattle.sbl_rows.specs.declared.class.Class as declared
-use Rattle.sbl_reports.specs.RowRecords.{class_fields}
+use Rattle.sbl_records.specs.RowRecords.{class_fields}
 use Rattle.sbl_reports.specs.Listings.{classes_text}
 use Rattle.sbl_sessions.proofs.ReportFacts.{text_of_views}
 use Rattle.sbl_sessions.proofs.reports.classes_text.Goals as goal

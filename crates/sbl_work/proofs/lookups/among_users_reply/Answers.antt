@@ -2,7 +2,7 @@ use Rattle.std.proofs.Common.{rules, ◌≡◌, ◌∙◌, ℕ, List, None, Some
 use Rattle.std.specs.Option.{option_map_or}
 use Rattle.std.specs.Str.{chars}
 use Rattle.sbl_bench.specs.KeptRuns.{contents_of}
-use Rattle.sbl_explain.specs.Uses.{OfAmong, OfString}
+use Rattle.sbl_uses.specs.Uses.{OfAmong, OfString}
 use Rattle.sbl_sessions.specs.Commands.{Bad}
 use Rattle.sbl_sessions.specs.Numbers.{number_in}
 use Rattle.sbl_sessions.specs.Words.{argument, command_word}

@@ -1,7 +1,7 @@
 use Rattle.std.proofs.Common.{rules, ◌≡◌, inr, ap}
 use Rattle.std.specs.Str.{chars}
 use Rattle.sbl_bench.specs.KeptRuns.{contents_of}
-use Rattle.sbl_explain.specs.Uses.{OfString}
+use Rattle.sbl_uses.specs.Uses.{OfString}
 use Rattle.sbl_work.specs.Commands.{Uses}
 use Rattle.sbl_work.specs.Replies.{uses_reply_text}
 use Rattle.sbl_work.proofs.ReplyFacts.{reply_is_told, same_command}

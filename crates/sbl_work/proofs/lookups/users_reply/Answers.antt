@@ -2,7 +2,7 @@ use Rattle.std.proofs.Common.{inl, ap, sym, ℕ}
 use Rattle.std.specs.Prelude.{Vec}
 use Rattle.std.specs.declared.alloc.Global.{Global}
 use Rattle.sbl_bench.specs.KeptRuns.{contents_of}
-use Rattle.sbl_explain.specs.Uses.{question_of, uses_text}
+use Rattle.sbl_uses.specs.Uses.{question_of, uses_text}
 use Rattle.sbl_work.specs.Replies.{users_or_fault}
 use Rattle.sbl_work.proofs.LookupFacts.{fault_told}
 use Rattle.sbl_work.proofs.lookups.users_reply.Goals as goal

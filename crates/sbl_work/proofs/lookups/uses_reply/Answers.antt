@@ -1,7 +1,7 @@
 use Rattle.std.proofs.Common.{rules, ◌≡◌, ◌∙◌, ◌==◌, ℕ, List, ap, ap₂, false, length, true}
 use Rattle.std.specs.Option.{option_map_or}
 use Rattle.sbl_bench.specs.KeptRuns.{contents_of}
-use Rattle.sbl_explain.specs.Uses.{OfName}
+use Rattle.sbl_uses.specs.Uses.{OfName}
 use Rattle.sbl_sessions.specs.Commands.{Bad}
 use Rattle.sbl_sessions.specs.Words.{argument, command_word}
 use Rattle.sbl_work.specs.Commands.{Session, Uses, uses_command}

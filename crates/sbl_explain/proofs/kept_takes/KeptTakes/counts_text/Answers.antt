@@ -1,13 +1,14 @@
 use Rattle.std.proofs.Common.{◌≡◌, ◌∙◌, List, ap, subst, sym}
 use Rattle.sbl_bench.specs.KeptRuns.{setting_of}
 use Rattle.sbl_script.specs.ParsedScript.{ParsedScript, source_of}
-use Rattle.sbl_explain.specs.Counts.{usables_of}
+use Rattle.sbl_uses.specs.Counts.{usables_of}
 use Rattle.sbl_explain.specs.Kept.{KeepsWords}
-use Rattle.sbl_explain.specs.UsableViews.{AreDefined, rows_text, view_usables}
-use Rattle.sbl_explain.specs.Used.{Usable}
+use Rattle.sbl_uses.specs.UsableViews.{view_usables}
+use Rattle.sbl_explain.specs.UsableViews.{AreDefined, rows_text}
+use Rattle.sbl_uses.specs.Used.{Usable}
 use Rattle.sbl_explain.specs.declared.kept_words.KeptWord.{KeptWord}
-use Rattle.sbl_explain.specs.declared.usables.Usable as declared
-use Rattle.sbl_explain.proofs.Defined.{usables_defined}
+use Rattle.sbl_uses.specs.declared.usables.Usable as declared
+use Rattle.sbl_uses.proofs.Defined.{usables_defined}
 use Rattle.sbl_explain.proofs.kept_takes.KeptTakes.counts_text.Goals as goal
 
 pub returns : goal.returns

@@ -3,12 +3,12 @@ use Rattle.std.specs.Result.{result_map_both}
 use Rattle.sbl_bench.specs.KeptRuns.{setting_of}
 use Rattle.sbl_rows.specs.Rows.{Row, view_row}
 use Rattle.sbl_io.specs.Records.{records_text}
-use Rattle.sbl_reports.specs.RowRecords.{row_fields}
-use Rattle.sbl_reports.proofs.RecordFacts.{seen_lines}
+use Rattle.sbl_records.specs.RowRecords.{row_fields}
+use Rattle.sbl_records.proofs.RecordFacts.{seen_lines}
 use Rattle.sbl_script.specs.ParsedScript.{ParsedScript, source_of}
-use Rattle.sbl_explain.specs.UsableViews.{is_defined, view_usable}
-use Rattle.sbl_explain.specs.Uses.{question_of, usable_for, users_text}
-use Rattle.sbl_explain.proofs.Defined.{asked_defined}
+use Rattle.sbl_uses.specs.UsableViews.{is_defined, view_usable}
+use Rattle.sbl_uses.specs.Uses.{question_of, usable_for, users_text}
+use Rattle.sbl_uses.proofs.Defined.{asked_defined}
 use Rattle.sbl_explain.proofs.kept_takes.KeptTakes.uses_text.Goals as goal
 
 pub returns : goal.returns

@@ -1,6 +1,0 @@
-use Rattle.sbl_explain.specs.Parts.{parts_of}
-use Rattle.sbl_explain.proofs.UserFacts.{unused_are}
-use Rattle.sbl_explain.proofs.laws.unused_have_number_zero.Goals as goal
-
-pub returns : goal.returns
-returns c = λ s words. unused_are s words (parts_of s.script)

@@ -1,6 +1,0 @@
--- What the code's value of a search stands for.
-use Rattle.sbl_explain.specs.Moments as spec
-use Rattle.sbl_explain.specs.declared.moment.OpenSearch.{OpenSearch}
-
-abbrev pub view_search : OpenSearch → spec.OpenSearch
-view_search s = record { mode = s.mode; ahead = s.ahead.items }

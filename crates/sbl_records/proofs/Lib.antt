@@ -1,0 +1,2 @@
+pub mod WriterFacts
+pub mod RecordFacts
