@@ -6,11 +6,11 @@ use Rattle.std.proofs.lemmas.Slice.Eq.{bytes_eq-Decides}
 use Rattle.sbl_rows.proofs.Putting.{or_false, or_shift}
 use Rattle.sbl_rows.specs.Setting.{Setting}
 use Rattle.sbl_bench.specs.Vocabulary.{is_word}
-use Rattle.sbl_machine.specs.BuiltFrom.{is_affected_by, meets}
+use Rattle.sbl_run_laws.specs.BuiltFrom.{is_affected_by, meets}
 use Rattle.sbl_semantics.specs.Outcome.{touches_of}
 use Rattle.sbl_semantics.specs.TouchedItems.{item_of_touch, names_of, touched_items}
 use Rattle.sbl_ast.specs.NamedParts.{Part'}
-use Rattle.sbl_machine.proofs.TouchedOrder.{any_ordered}
+use Rattle.sbl_run_laws.proofs.TouchedOrder.{any_ordered}
 use Rattle.std.specs.Borrow.{Bor}
 use Rattle.std.proofs.lemmas.List.{drop-map}
 use Rattle.sbl_explain.specs.Unused.{is_met}

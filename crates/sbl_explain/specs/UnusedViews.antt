@@ -6,7 +6,7 @@ use Rattle.std.specs.BTreeSet.{BTreeSet}
 use Rattle.std.specs.Global.{Vec}
 use Rattle.std.specs.List.{list_any}
 use Rattle.sbl_rows.specs.Setting.{Setting}
-use Rattle.sbl_machine.specs.inside.BuiltFromParts.{built_on}
+use Rattle.sbl_run_laws.specs.inside.BuiltFromParts.{built_on}
 use Rattle.sbl_machine.specs.ItemRefs.{item_of_ref, items_of_refs}
 use Rattle.sbl_machine.specs.declared.item_ref.ItemRef.{ItemRef}
 use Rattle.sbl_semantics.specs.TouchedItems.{same_item, touched_items}

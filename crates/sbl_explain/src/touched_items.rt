@@ -4,8 +4,8 @@ ghost use Rattle.std.specs.Prelude.{◌≡◌, ◌||◌, Bool, List, ℕ, map, t
 ghost use Rattle.std.specs.List.{list_any};
 ghost use Rattle.sbl_bench.specs.KeptRuns.{setting_of};
 ghost use Rattle.sbl_bench.specs.Vocabulary.{is_word};
-ghost use Rattle.sbl_machine.specs.BuiltFrom.{is_affected_by, any_names};
-ghost use Rattle.sbl_machine.specs.inside.BuiltFromParts.{names};
+ghost use Rattle.sbl_run_laws.specs.BuiltFrom.{is_affected_by, any_names};
+ghost use Rattle.sbl_run_laws.specs.inside.BuiltFromParts.{names};
 ghost use Rattle.sbl_machine.specs.ItemRefs.{item_of_ref, items_of_refs};
 ghost use Rattle.sbl_semantics.specs.TouchedItems.{same_item};
 ghost use Rattle.sbl_ast.specs.NamedParts.{Part', Grouping};
