@@ -10,10 +10,10 @@ use crate::affected_words::{
 };
 use crate::bench::{Bench, MAX_LIMIT, MAX_WORDS};
 use crate::break_off::{BreakOff, NeverBreak};
-use crate::change::{make_changes, rerun};
+use crate::change::rerun;
 use crate::fault::EditFault;
-use crate::pairs::{follow, follow_new, follow_old};
-use crate::traces::{has_word, put_last, words_are_unique};
+use crate::traces::{has_word, put_last};
+use sbl_last_runs::{follow, follow_new, follow_old, make_changes, words_are_unique};
 use sbl_machine::laws::{differing_stay, edits_agree, one_item_alone, untouched_stay};
 use sbl_machine::{Item, Machine};
 use sbl_run_laws::laws::used_steps_suffice;
