@@ -5,7 +5,7 @@ ghost use Rattle.std.specs.Option.{option_map, option_to_list};
 ghost use Rattle.sbl_rows.specs.ChangedRows.{view_changed_row};
 ghost use Rattle.sbl_last_runs.specs.Last.{changed_since, last_changes};
 
-use crate::change::Change;
+use crate::change::RunChange;
 use crate::last_run::LastRun;
 use crate::traces::Traces;
 use sbl_rows::{ChangedRow, is_same};

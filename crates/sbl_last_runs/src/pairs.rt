@@ -7,7 +7,7 @@ ghost use Rattle.sbl_last_runs.specs.KeptEntries.{KeptWord};
 ghost use Rattle.sbl_last_runs.specs.Pairs.{ArePaired, IsIndexed, IsOneMore, find};
 ghost use Rattle.sbl_last_runs.specs.Last.{Follows};
 
-use crate::change::Change;
+use crate::change::RunChange;
 use crate::last_run::LastRun;
 use crate::traces::{Traces, words_are_unique};
 use sbl_rows::{Pairs, follow_one, insert_pair, remove_key};
