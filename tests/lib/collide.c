@@ -1,7 +1,7 @@
 /* Prints COUNT different words of three characters, one a line, that a hash with known keys puts into one place of a table of 2^BITS
    places: collide COUNT BITS HASH
    HASH is `fold`, the standard hasher of the kit's maps, whose seed is fixed (core/src/hash/fold.rt), or `words`, the hash of words
-   (crates/sbl_bench/src/word_hash.rt) as it would be if the system's keys were 0. */
+   (crates/sbl_last_runs/src/word_hash.rt) as it would be if the system's keys were 0. */
 #include <stdint.h>
 #include <stdio.h>
 #include <stdlib.h>

@@ -1,10 +1,9 @@
 -- Which rows an edit changes.
-use Rattle.std.proofs.Common.{map, ◌≡◌, ◌≢◌, ◌∙◌, ◌<◌, ◌+◌, ◌++◌, ℕ, suc, Bool, true, false, cond, List, [], ◌∷◌, Option, Some, None, IsSome, slice_index_or, drop, length, add-one, append_assoc, arith, refl, sym, ap, subst}
+use Rattle.std.proofs.Common.{map, ◌≡◌, ◌≢◌, ◌∙◌, ◌<◌, ℕ, Bool, true, false, cond, List, [], ◌∷◌, Option, Some, None, slice_index_or, length, arith, refl, sym, ap, subst}
 use Rattle.std.specs.List.{All, AllByRecursion, AllPairs, IsDistinct, cons_option, filter, filter_map}
 use Rattle.std.specs.Map.{keys_of}
-use Rattle.std.specs.Option.{option_and_then, option_to_list}
+use Rattle.std.specs.Option.{option_and_then}
 use Rattle.std.specs.Str.{bytes_eq}
-use Rattle.std.proofs.Math.Seq.{drop-cons}
 use Rattle.std.proofs.lemmas.List.{length-map}
 use Rattle.std.proofs.lemmas.List.Elements.{All-head, All-tail}
 use Rattle.std.proofs.lemmas.List.Folds.{list_any_at}
@@ -12,22 +11,22 @@ use Rattle.std.proofs.lemmas.Map.Made.{AllPairs-from_IsDistinct, IsDistinct-keys
 use Rattle.std.proofs.lemmas.Slice.Eq.{bytes_eq-Decides}
 use denote.Enum.Bare.{true_same}
 use Rattle.sbl_semantics.specs.contracts.fault.RunFault as fault
-use Rattle.sbl_semantics.specs.Outcome.{Outcome', Stem, Refused, outcome_of, run_of}
-use Rattle.sbl_machine.specs.declared.outcome.RunTrace.{RunTrace}
+use Rattle.sbl_semantics.specs.Outcome.{Outcome', Stem, Refused, run_of}
 use Rattle.sbl_bench.specs.inside.AffectedWords.{AffectedWords, is_affected}
 use Rattle.sbl_rows.specs.ChangedRows.{ChangedRow, changed_rows, if_changed, outcome_in, same_outcome}
-use Rattle.sbl_bench.specs.inside.Changes.{AreAnew, AreRun, Rerun, is_met, met_words, reruns, view_change}
-use Rattle.sbl_bench.specs.inside.KeptEntries.{KeptWord, AreFresh, IsFresh, words_in}
-use Rattle.sbl_bench.specs.inside.Last.{AreApart, change_of, last_change, last_changes, word_found, word_run}
-use Rattle.sbl_bench.specs.inside.Pairs.{Text, find}
+use Rattle.sbl_last_runs.specs.RunChanges.{AreAnew, Rerun, view_change}
+use Rattle.sbl_bench.specs.inside.Changes.{is_met, met_words, reruns}
+use Rattle.sbl_last_runs.specs.KeptEntries.{KeptWord, AreFresh, words_in}
+use Rattle.sbl_last_runs.specs.Last.{AreApart, change_of, last_changes}
+use Rattle.sbl_last_runs.specs.Pairs.{Text}
 use Rattle.sbl_rows.specs.Rows.{rows_of}
 use Rattle.sbl_rows.specs.Setting.{Setting}
 use Rattle.sbl_rows.specs.inside.SameRuns.{RunsSame}
 use Rattle.sbl_bench.specs.Vocabulary.{is_word}
-use Rattle.sbl_bench.specs.declared.change.Change.{Change}
-use Rattle.sbl_bench.proofs.ChangeFacts.{words_by_keys}
+use Rattle.sbl_last_runs.specs.declared.change.RunChange.{RunChange}
+use Rattle.sbl_last_runs.proofs.ChangeFacts.{words_by_keys}
 use Rattle.sbl_bench.proofs.Meeting.{anew, at_mapped, met_fresh, still}
-use Rattle.sbl_bench.proofs.Tracing.{fresh_found}
+use Rattle.sbl_last_runs.proofs.RunsBefore.{heads, tails}
 
 -- ---- outcomes that are the same
 
@@ -99,63 +98,10 @@ pub met_rows : (s t : Setting) (a : AffectedWords) (es : List KeptWord) → ((w 
     → filter_map (change_of s t) (met_words a es) ≡ changed_rows (rows_of s (words_in es)) (rows_of t (words_in es))
 met_rows s t a es stays fresh = met_change s t a es stays fresh ∙ sym (rows_change s t (words_in es) (words_in es) (own_words (words_in es)))
 
--- ---- the runs before and now
-
-heads : {A : Type 0} (x y : A) (xs ys : List A) → (x ∷ xs) ≡ (y ∷ ys) → x ≡ y
-heads x y xs ys e = cc e
-
-tails : {A : Type 0} (x y : A) (xs ys : List A) → (x ∷ xs) ≡ (y ∷ ys) → xs ≡ ys
-tails x y xs ys e = cc e
-
-one_last : (s t : Setting) (es fs : List KeptWord) (c l : Change) → AreFresh s es → IsFresh t c.word.items c.traced → find c.word.items fs ≡ Some c.traced → word_run l ≡ word_found es c
-    → last_change fs l ≡ change_of s t c.word.items
-one_last s t es fs c l fresh run there was =
-    let w = c.word.items in
-    let word : l.word.items ≡ w = ap (λ (p : List ℕ × Option RunTrace). p.0) was in
-    let before : Some l.traced ≡ find w es = ap (λ (p : List ℕ × Option RunTrace). p.1) was in
-    let old = fresh_found s w es l.traced fresh before in
-    let now : find l.word.items fs ≡ Some c.traced = ap (λ (x : List ℕ). find x fs) word ∙ there in
-    ap (option_and_then (λ (r : RunTrace). if_changed l.word.items (outcome_of l.traced.outcome) (outcome_of r.outcome))) now
-    ∙ λ i. if_changed (word i) (old.outcome i) (run.outcome i)
-
-pub last_is : (s t : Setting) (es fs : List KeptWord) (cs ls : List Change) → AreFresh s es → AreRun t es cs → All (λ c. find c.word.items fs ≡ Some c.traced) cs
-    → map word_run ls ≡ map (word_found es) cs → last_changes fs ls ≡ filter_map (change_of s t) (map (λ c. c.word.items) cs)
-last_is s t es fs [] [] fresh run there was = refl
-last_is s t es fs [] (l ∷ ls) fresh run there was = cc was
-last_is s t es fs (c ∷ cs) [] fresh run there was = cc was
-last_is s t es fs (c ∷ cs) (l ∷ ls) fresh run there was =
-    let first = one_last s t es fs c l fresh (All-head Run c cs run).0 (All-head Now c cs there) (heads (word_run l) (word_found es c) (map word_run ls) (map (word_found es) cs) was) in
-    let rest = last_is s t es fs cs ls fresh (All-tail Run c cs run) (All-tail Now c cs there) (tails (word_run l) (word_found es c) (map word_run ls) (map (word_found es) cs) was) in
-    λ i. cons_option (first i) (rest i)
-  where
-    Run : Change → Type 0
-    Run d = IsFresh t d.word.items d.traced × IsSome (find d.word.items es)
-
-    Now : Change → Type 0
-    Now d = find d.word.items fs ≡ Some d.traced
-
--- ---- one change after another
-
-put_option : {A : Type 0} (o : Option A) (xs : List A) → option_to_list o ++ xs ≡ cons_option o xs
-put_option None xs = refl
-put_option (Some x) xs = refl
-
--- one more change is looked at
-pub last_step : (es : List KeptWord) (cs : List Change) (i : ℕ) (d c : Change) (old new all : List ChangedRow) → i < length cs → c ≡ slice_index_or cs i d
-    → new ≡ old ++ option_to_list (last_change es c) → old ++ last_changes es (drop i cs) ≡ all → new ++ last_changes es (drop (i + 1) cs) ≡ all
-last_step es cs i d c old new all below is more so =
-    let rest = drop (i + 1) cs in
-    let next : drop i cs ≡ c ∷ rest = drop-cons cs i d below ∙ ap (λ (x : Change). x ∷ drop (suc i) cs) (sym is) ∙ ap (λ (k : ℕ). c ∷ drop k cs) (sym (add-one i)) in
-    ap (λ (l : List ChangedRow). l ++ last_changes es rest) more
-    ∙ append_assoc old (option_to_list (last_change es c)) (last_changes es rest)
-    ∙ ap (λ (l : List ChangedRow). old ++ l) (put_option (last_change es c) (last_changes es rest))
-    ∙ ap (λ (l : List Change). old ++ last_changes es l) (sym next)
-    ∙ so
-
 -- ---- the words of changes
 
 -- the words of the changes are those that were run again
-pub words_run : (t : Setting) (words : List (List ℕ)) (cs : List Change) → map view_change cs ≡ reruns t words → map (λ c. c.word.items) cs ≡ words
+pub words_run : (t : Setting) (words : List (List ℕ)) (cs : List RunChange) → map view_change cs ≡ reruns t words → map (λ c. c.word.items) cs ≡ words
 words_run t [] [] is = refl
 words_run t [] (c ∷ cs) is = cc is
 words_run t (w ∷ words) [] is = cc is
@@ -180,10 +126,10 @@ met_apart a es unique =
     AllPairs-from_IsDistinct bytes_eq-Decides (met_words a es)
     (subst (IsDistinct bytes_eq) (sym (words_by_keys met)) (distinct_texts (keys_of met) (IsDistinct-keys_filter (λ (x y : Text). bytes_eq x.items y.items) (is_met a) es unique)))
 
-pub apart : (t : Setting) (a : AffectedWords) (es : List KeptWord) (cs : List Change) → map view_change cs ≡ reruns t (met_words a es)
+pub apart : (t : Setting) (a : AffectedWords) (es : List KeptWord) (cs : List RunChange) → map view_change cs ≡ reruns t (met_words a es)
     → IsDistinct (λ (x y : Text). bytes_eq x.items y.items) (keys_of es) → AreApart cs
 apart t a es cs is unique i j d h below =
-    let word = λ (c : Change). c.word.items in
+    let word = λ (c : RunChange). c.word.items in
     let same = words_run t (met_words a es) cs is in
     let long : j < length (met_words a es) = let n = length-map cs word in let m = ap length same in omega (arith, n, m, below) in
     let at = λ (k : ℕ). ap (λ (ws : List (List ℕ)). slice_index_or ws k d.word.items) (sym same) ∙ at_mapped word cs k d in
@@ -192,7 +138,7 @@ apart t a es cs is unique i j d h below =
 -- ---- an edit of the setting
 
 -- what the last runs show after an edit that meets these words
-pub edit_changes : (s t : Setting) (a : AffectedWords) (es fs : List KeptWord) (cs ls : List Change) → ((w : List ℕ) → is_affected s a w ≡ false → RunsSame s t w) → AreFresh s es
+pub edit_changes : (s t : Setting) (a : AffectedWords) (es fs : List KeptWord) (cs ls : List RunChange) → ((w : List ℕ) → is_affected s a w ≡ false → RunsSame s t w) → AreFresh s es
     → map view_change cs ≡ reruns t (met_words a es)
     → ((s t : Setting) → AreFresh s es → AreAnew t es cs → last_changes fs ls ≡ filter_map (change_of s t) (map (λ c. c.word.items) cs))
     → words_in fs ≡ words_in es → last_changes fs ls ≡ changed_rows (rows_of s (words_in es)) (rows_of t (words_in fs))

@@ -2,12 +2,7 @@ pub mod MapEntries
 pub mod Refusals
 pub mod Opening
 pub mod Taking
-pub mod TouchFacts
-pub mod PairFacts
-pub mod Following
-pub mod ClassFacts
 pub mod ClassOfStem
-pub mod ChangeFacts
 pub mod Meeting
 pub mod MeetingRows
 pub mod Tracing

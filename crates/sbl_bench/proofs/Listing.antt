@@ -12,13 +12,13 @@ use Rattle.std.proofs.lemmas.List.Elements.{All-nil, All-push}
 use Rattle.sbl_bench.specs.BreakingOff.{EditsOrBreaks}
 use Rattle.sbl_bench.specs.Contents.{Contents, IsFaultOrMemory, max_runs, opening_fault, word_fault}
 use Rattle.sbl_bench.specs.Edits.{Edits, Remove, Words, BeforeEdit}
-use Rattle.sbl_machine.specs.declared.outcome.RunTrace.{RunTrace}
+use Rattle.sbl_last_runs.specs.declared.run_trace.RunTrace.{RunTrace}
 use Rattle.sbl_rows.specs.Setting.{Setting}
 use Rattle.sbl_rows.proofs.Loops.{next}
 use Rattle.sbl_rows.proofs.OrderFacts.{bytes_eq-back}
 use Rattle.sbl_semantics.specs.Outcome.{outcome_of}
 use Rattle.sbl_bench.specs.KeptRuns.{IsWord}
-use Rattle.sbl_bench.specs.inside.KeptEntries.{IsFresh, KeptWord, words_in}
+use Rattle.sbl_last_runs.specs.KeptEntries.{IsFresh, KeptWord, words_in}
 use Rattle.sbl_bench.specs.Vocabulary.{is_skipped, is_word, vocabulary, with_word}
 use Rattle.sbl_bench.specs.declared.fault.EditFault.{EditFault}
 use Rattle.sbl_bench.specs.declared.fault.EditFault.TheVariants as fault

@@ -1,5 +1,5 @@
 -- Where a word stands in a map's entries, and what the entries are once one more is put last.
-use Rattle.std.proofs.Common.{◌≡◌, ◌∙◌, ◌<◌, ◌≤◌, ◌++◌, ℕ, Bool, true, false, List, [], ◌∷◌, length, Option, Some, None, Result, Ok, Err, OnOk, OnErr, is_some, cond, All, refl, sym, ap, subst, arith, map}
+use Rattle.std.proofs.Common.{◌≡◌, ◌∙◌, ◌<◌, ◌≤◌, ◌++◌, ℕ, Bool, true, false, List, [], ◌∷◌, length, Option, Some, None, Result, Ok, Err, OnOk, OnErr, is_some, cond, All, refl, sym, ap, subst, arith}
 use Rattle.std.proofs.lemmas.List.{length-append}
 use Rattle.std.proofs.lemmas.List.Elements.{All-push, All-head, All-tail, All-cons}
 use Rattle.std.specs.Str.{bytes_eq}
@@ -10,17 +10,14 @@ use Rattle.std.specs.Map.{keys_of, lookup, lookup_key, remove_entry}
 use Rattle.std.proofs.lemmas.Slice.Eq.{bytes_eq-Decides}
 use Rattle.sbl_rows.proofs.OrderFacts.{bytes_eq-back}
 use Rattle.sbl_rows.specs.Setting.{Setting}
-use Rattle.sbl_machine.specs.declared.outcome.RunTrace.{RunTrace}
+use Rattle.sbl_last_runs.specs.declared.run_trace.RunTrace.{RunTrace}
 use Rattle.sbl_bench.specs.declared.fault.EditFault.{EditFault}
 use Rattle.sbl_bench.specs.KeptRuns.{IsWord}
-use Rattle.sbl_bench.specs.inside.KeptEntries.{KeptWord, words_in, AreFresh, IsFresh, IsKept}
-use Rattle.sbl_bench.specs.inside.Pairs.{IsOneMore, Text, find}
-pub use Rattle.sbl_bench.specs.inside.ShownRows.{row_shown}
-use Rattle.sbl_rows.specs.Rows.{rows_of}
+use Rattle.sbl_last_runs.specs.KeptEntries.{KeptWord, words_in, AreFresh, IsFresh}
+use Rattle.sbl_bench.specs.inside.KeptEntries.{IsKept}
+use Rattle.sbl_last_runs.specs.Pairs.{IsOneMore, Text, find}
+use Rattle.sbl_last_runs.proofs.Entries.{is_key, key_found}
 use Rattle.sbl_bench.specs.Vocabulary.{is_word, without}
-
-abbrev pub is_key : List ℕ → Vec ℕ Global → Bool
-is_key word k = bytes_eq word k.items
 
 -- a word has an entry exactly where it is a word of the entries
 pub found_word : (word : List ℕ) (es : List KeptWord) → is_some (lookup (is_key word) es) ≡ is_word word (words_in es)
@@ -57,11 +54,6 @@ kept-push script es e h word room ran = record {
   room = rw (length-append es (e ∷ [])) (omega (arith, room));
 }
 
--- fresh entries show the rows of their words
-pub rows_shown : (script : Setting) (es : List KeptWord) → AreFresh script es → map row_shown es ≡ rows_of script (words_in es)
-rows_shown script [] h = refl
-rows_shown script (e ∷ es) h = λ i. record { word = e.0.items; outcome = h.0.outcome i } ∷ rows_shown script es h.1 i
-
 -- entries that are kept, whether a word was put last or not
 pub kept_either : (script : Setting) (es new : List KeptWord) (r : Result (Unit {0}) EditFault) → IsKept script es
     → OnOk r (IsKept script new) → OnErr r (new ≡ es) → IsKept script new
@@ -77,18 +69,6 @@ put_more es e new = record { absent = not_found e.0.items es new; others = other
     others (f ∷ fs) w h = ap (cond (bytes_eq w.items f.0.items) (Some f.1)) (others fs w h)
 
 -- ---- a word that is taken out
-
-same_some : (x y : Text) → Some x ≡ Some y → x ≡ y
-same_some x y e = cc e
-
--- the key that is found for a word has its characters
-pub key_found : (word : List ℕ) (fs : List KeptWord) (k : Text) → lookup_key (is_key word) fs ≡ Some k → bytes_eq word k.items ≡ true
-key_found word [] k h = cc h
-key_found word (f ∷ fs) k h = by (is_key word f.0) refl (key_found word fs k) h
-  where
-    by : (b : Bool) → is_key word f.0 ≡ b → (lookup_key (is_key word) fs ≡ Some k → bytes_eq word k.items ≡ true) → cond b (Some f.0) (lookup_key (is_key word) fs) ≡ Some k → bytes_eq word k.items ≡ true
-    by true e rest g = ap (is_key word) (sym (same_some f.0 k g)) ∙ e
-    by false e rest g = rest g
 
 -- a word that is taken out was one more
 pub taken_more : (word : List ℕ) (es : List KeptWord) → IsDistinct (λ (x y : Text). bytes_eq x.items y.items) (keys_of es) → IsOneMore word es (remove_entry (is_key word) es)

@@ -8,17 +8,18 @@ use Rattle.std.proofs.lemmas.List.Elements.{All-cons, All-head, All-tail}
 use Rattle.std.proofs.Math.Path.{fun_ext}
 use Rattle.std.specs.Prelude.{if◌then◌else◌}
 use Rattle.sbl_semantics.specs.Outcome.{run_of, touches_of, used_of}
-use Rattle.sbl_machine.specs.declared.outcome.RunTrace.{RunTrace}
+use Rattle.sbl_last_runs.specs.declared.run_trace.RunTrace.{RunTrace}
 use Rattle.sbl_bench.specs.inside.AffectedWords.{AffectedWords, is_affected, is_affected_run}
-use Rattle.sbl_bench.specs.inside.Changes.{AreAnew, AreRun, AreStill, Brings, Rerun, is_changed, is_met, met_words, rerun_of, reruns, view_change, view_run}
+use Rattle.sbl_last_runs.specs.RunChanges.{AreAnew, AreRun, Rerun, is_changed, view_change, view_run}
+use Rattle.sbl_bench.specs.inside.Changes.{AreStill, Brings, is_met, met_words, rerun_of, reruns}
 use Rattle.sbl_bench.specs.Contents.{Contents}
 use Rattle.sbl_bench.specs.Edits.{Edit, needs_run, runs_needed}
 use Rattle.sbl_bench.specs.KeptRuns.{IsWord}
-use Rattle.sbl_bench.specs.inside.KeptEntries.{KeptWord, AreFresh, IsFresh, words_in}
-use Rattle.sbl_bench.specs.inside.Pairs.{Text, find}
+use Rattle.sbl_last_runs.specs.KeptEntries.{KeptWord, AreFresh, IsFresh, words_in}
+use Rattle.sbl_last_runs.specs.Pairs.{Text, find}
 use Rattle.sbl_rows.specs.Setting.{Setting}
 use Rattle.sbl_rows.specs.inside.SameRuns.{RunsSame}
-use Rattle.sbl_bench.specs.declared.change.Change.{Change}
+use Rattle.sbl_last_runs.specs.declared.change.RunChange.{RunChange}
 
 -- ---- which words are met
 
@@ -167,14 +168,14 @@ fresh_or_rerun needs_run script (e ∷ es) w still = by (bytes_eq w e.0.items) r
     by true h false k rest = inl (subst (λ (x : List ℕ). IsFresh script x e.1) (sym ((bytes_eq-Decides w e.0.items).0 h)) (still.0 k))
     by true h true k rest = inr (rw ((bytes_eq-Decides e.0.items w).1 (sym ((bytes_eq-Decides w e.0.items).0 h))) refl)
 
-changed_view : (cs : List Change) (w : List ℕ) → is_rerun (map view_change cs) w ≡ is_changed cs w
+changed_view : (cs : List RunChange) (w : List ℕ) → is_rerun (map view_change cs) w ≡ is_changed cs w
 changed_view [] w = refl
 changed_view (c ∷ cs) w = ap (λ (b : Bool). bytes_eq c.word.items w || b) (changed_view cs w)
 
-abbrev Run : Setting → List KeptWord → Change → Type 0
+abbrev Run : Setting → List KeptWord → RunChange → Type 0
 Run script es c = IsFresh script c.word.items c.traced × IsSome (find c.word.items es)
 
-run_view : (script : Setting) (es : List KeptWord) (cs : List Change) → All (RunOf script es) (map view_change cs) → AreRun script es cs
+run_view : (script : Setting) (es : List KeptWord) (cs : List RunChange) → All (RunOf script es) (map view_change cs) → AreRun script es cs
 run_view script es [] a = λ k d h. absurd (omega (arith, h))
 run_view script es (c ∷ cs) a = All-cons (Run script es) c cs (one (All-head (RunOf script es) (view_change c) (map view_change cs) a)) (run_view script es cs (All-tail (RunOf script es) (view_change c) (map view_change cs) a))
   where
@@ -182,7 +183,7 @@ run_view script es (c ∷ cs) a = All-cons (Run script es) c cs (one (All-head (
     one r = (record { outcome = r.outcome; touches = r.touches; used = r.used }, r.there)
 
 -- the words that are not met stay, and those that are met are run: then all is anew
-anew_by : (needs_run : KeptWord → Bool) (script : Setting) (es : List KeptWord) (cs : List Change) → map view_change cs ≡ changes_of needs_run script es
+anew_by : (needs_run : KeptWord → Bool) (script : Setting) (es : List KeptWord) (cs : List RunChange) → map view_change cs ≡ changes_of needs_run script es
     → AreStill needs_run script es → AreAnew script es cs
 anew_by needs_run script es cs is still = record {
   run = run_view script es cs (subst (All (RunOf script es)) (sym is) (runs_there needs_run script es));
@@ -195,6 +196,6 @@ anew_by needs_run script es cs is still = record {
     at w (Some t) (inl p) = inl p
     at w (Some t) (inr p) = inr (sym (changed_view cs w.items) ∙ ap (λ (rs : List Rerun). is_rerun rs w.items) is ∙ p)
 
-pub anew : (a : AffectedWords) (script : Setting) (es : List KeptWord) (cs : List Change) → map view_change cs ≡ reruns script (met_words a es)
+pub anew : (a : AffectedWords) (script : Setting) (es : List KeptWord) (cs : List RunChange) → map view_change cs ≡ reruns script (met_words a es)
     → AreStill (is_met a) script es → AreAnew script es cs
 anew a script es cs is still = anew_by (is_met a) script es cs (is ∙ changes_are (is_met a) script es) still

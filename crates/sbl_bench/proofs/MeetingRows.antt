@@ -3,16 +3,16 @@ use Rattle.std.proofs.Common.{◌≡◌, ◌∙◌, ◌++◌, ◌∷◌, [], Lis
 use Rattle.std.specs.List.{filter, list_all}
 use Rattle.sbl_rows.specs.Rows.{Row}
 use Rattle.sbl_rows.specs.Setting.{Setting}
-use Rattle.sbl_machine.specs.BuiltFrom.{meets}
+use Rattle.sbl_run_laws.specs.BuiltFrom.{meets}
 use Rattle.sbl_machine.specs.DifferLaws.{OneMeets}
 use Rattle.sbl_machine.specs.Marks.{has_item}
 use Rattle.sbl_semantics.specs.TouchedItems.{Names'}
 use Rattle.sbl_ast.specs.NamedParts.{Part'}
-use Rattle.sbl_bench.specs.inside.KeptEntries.{AreFresh, KeptWord, words_in}
+use Rattle.sbl_last_runs.specs.KeptEntries.{AreFresh, KeptWord, words_in}
 use Rattle.sbl_bench.specs.Traces.{rows_meeting}
 use Rattle.sbl_bench.specs.inside.AffectedWords.{AffectedWords, AreMet}
 use Rattle.sbl_bench.specs.inside.Changes.{is_met}
-use Rattle.sbl_bench.specs.inside.ShownRows.{row_shown}
+use Rattle.sbl_last_runs.specs.ShownRows.{row_shown}
 use Rattle.sbl_bench.proofs.Meeting.{met_fresh}
 
 -- the rows that entries show whose runs are affected

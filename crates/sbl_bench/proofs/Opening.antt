@@ -1,6 +1,6 @@
 -- Where opening stands between two words.
 use Rattle.std.proofs.Common.{◌≡◌, ℕ, List, [], length}
-use Rattle.sbl_bench.specs.inside.KeptEntries.{KeptWord, words_in}
+use Rattle.sbl_last_runs.specs.KeptEntries.{KeptWord, words_in}
 use Rattle.sbl_bench.specs.Contents.{opening_fault}
 use Rattle.sbl_bench.specs.Vocabulary.{vocabulary}
 use Rattle.sbl_bench.specs.inside.ProofNames.{with_all}

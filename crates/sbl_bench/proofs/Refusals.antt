@@ -9,7 +9,7 @@ use Rattle.std.proofs.lemmas.Bool.Decides.{nat_tests}
 use Rattle.std.proofs.lemmas.List.{length-map}
 use Rattle.std.proofs.lemmas.Option.{none-some}
 use Rattle.sbl_rows.specs.Setting.{Setting}
-use Rattle.sbl_bench.specs.inside.KeptEntries.{KeptWord, words_in}
+use Rattle.sbl_last_runs.specs.KeptEntries.{KeptWord, words_in}
 use Rattle.sbl_bench.specs.declared.fault.EditFault.{EditFault}
 use Rattle.sbl_bench.specs.declared.fault.EditFault.TheVariants as fault
 use Rattle.sbl_bench.specs.BreakingOff.{IsBrokenOff}

@@ -7,7 +7,7 @@ use Rattle.sbl_bench.specs.inside.Changes.{Brings, met_words}
 use Rattle.sbl_bench.specs.BreakingOff.{EditsOrBreaks}
 use Rattle.sbl_bench.specs.Contents.{Contents, max_runs}
 use Rattle.sbl_bench.specs.Edits.{Edit, Edits, BeforeEdit, runs_needed}
-use Rattle.sbl_bench.specs.inside.KeptEntries.{AreFresh, KeptWord, words_in}
+use Rattle.sbl_last_runs.specs.KeptEntries.{AreFresh, KeptWord, words_in}
 use Rattle.sbl_rows.specs.Setting.{Setting}
 use Rattle.sbl_bench.specs.inside.Stops.{IsStopOf}
 use Rattle.sbl_bench.proofs.Meeting.{needed_is}

@@ -3,9 +3,9 @@ use Rattle.std.proofs.Common.{◌≡◌, ◌∙◌, ◌++◌, ℕ, Bool, true, f
 use Rattle.std.specs.Str.{bytes_eq}
 use Rattle.indexmap.specs.IndexMap.{get, insert_entry}
 use Rattle.indexmap.proofs.CallerLemmas.{insert_entry-new}
-use Rattle.sbl_machine.specs.declared.outcome.RunTrace.{RunTrace}
-use Rattle.sbl_bench.specs.declared.word_hash.WordKeys.{WordKeys}
-use Rattle.sbl_bench.specs.inside.KeptEntries.{KeptWord}
+use Rattle.sbl_last_runs.specs.declared.run_trace.RunTrace.{RunTrace}
+use Rattle.sbl_last_runs.specs.declared.word_hash.WordKeys.{WordKeys}
+use Rattle.sbl_last_runs.specs.KeptEntries.{KeptWord}
 use Rattle.sbl_bench.specs.Vocabulary.{is_word, with_word}
 
 abbrev pub Traces : Type 0

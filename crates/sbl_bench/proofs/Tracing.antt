@@ -1,27 +1,15 @@
 -- What the entry of a word tells of what its run touches.
-use Rattle.std.proofs.Common.{◌≡◌, ◌∙◌, ℕ, Bool, true, false, cond, List, [], ◌∷◌, Some, None, is_some, refl, sym, ap, subst}
-use Rattle.std.specs.Str.{bytes_eq}
-use Rattle.std.proofs.lemmas.Slice.Eq.{bytes_eq-Decides}
+use Rattle.std.proofs.Common.{◌≡◌, ◌∙◌, ℕ, Bool, true, false, cond, List, Some, None, is_some, sym, ap}
 use Rattle.sbl_semantics.specs.TouchedItems.{items_of, names_of, touched_items}
 use Rattle.sbl_ast.specs.NamedParts.{Part'}
-use Rattle.sbl_machine.specs.declared.outcome.RunTrace.{RunTrace}
+use Rattle.sbl_last_runs.specs.declared.run_trace.RunTrace.{RunTrace}
 use Rattle.sbl_rows.specs.Setting.{Setting}
-use Rattle.sbl_bench.specs.inside.KeptEntries.{KeptWord, AreFresh, IsFresh, words_in}
-use Rattle.sbl_bench.specs.inside.Pairs.{find}
+use Rattle.sbl_last_runs.specs.KeptEntries.{KeptWord, AreFresh, words_in}
+use Rattle.sbl_last_runs.specs.Pairs.{find}
 use Rattle.sbl_bench.specs.Traces.{trace_of}
 use Rattle.sbl_bench.specs.Vocabulary.{is_word}
 use Rattle.sbl_bench.proofs.MapEntries.{found_word}
-
--- the run that a word has is fresh
-pub fresh_found : (script : Setting) (word : List ℕ) (es : List KeptWord) (t : RunTrace) → AreFresh script es → Some t ≡ find word es → IsFresh script word t
-fresh_found script word [] t fresh is = cc is
-fresh_found script word (e ∷ es) t fresh is = by (bytes_eq word e.0.items) refl is (fresh_found script word es t fresh.1)
-  where
-    by : (b : Bool) → bytes_eq word e.0.items ≡ b → Some t ≡ cond b (Some e.1) (find word es) → (Some t ≡ find word es → IsFresh script word t) → IsFresh script word t
-    by true same is rest =
-        let one : e.1 ≡ t = cc is in
-        subst (λ (w : List ℕ). IsFresh script w t) (sym ((bytes_eq-Decides word e.0.items).0 same)) (subst (IsFresh script e.0.items) one fresh.0)
-    by false other is rest = rest is
+use Rattle.sbl_last_runs.proofs.Entries.{fresh_found}
 
 -- a word with an entry is in the vocabulary
 pub is_there : (word : List ℕ) (es : List KeptWord) (t : RunTrace) → Some t ≡ find word es → is_word word (words_in es) ≡ true

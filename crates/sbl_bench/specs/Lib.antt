@@ -12,6 +12,5 @@ pub mod BreakLaws
 pub mod KeptRuns
 pub mod LeavesChanges
 pub mod Whys
-pub mod WordHash
 -- what the functions inside the crate promise each other, and names for proofs: nothing in these need be believed
 pub mod inside

@@ -1,10 +1,7 @@
 -- What the functions inside the crate promise each other, and names for proofs.
 pub mod ProofNames
-pub mod ShownRows
-pub mod Pairs
 pub mod Stops
 pub mod AffectedWords
 pub mod Changes
-pub mod Last
 pub mod WordLists
 pub mod KeptEntries

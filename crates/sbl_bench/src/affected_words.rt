@@ -5,8 +5,8 @@ ghost use Rattle.sbl_bench.specs.inside.AffectedWords as spec;
 ghost use Rattle.sbl_bench.specs.inside.AffectedWords.{AreMet, Defines, IsLinkedMachineOf, differs, item_list, source_of};
 ghost use Rattle.sbl_bench.specs.inside.Changes.{affected_of};
 
-use crate::last_run::LastRun;
 use crate::script_diff::differences;
+use sbl_last_runs::LastRun;
 use sbl_machine::laws::differing_agree;
 use sbl_machine::{Item, Machine, Table, Touch, TouchLog};
 use sbl_script::Script;

@@ -2,9 +2,8 @@
 
 ghost use Rattle.std.specs.Prelude.{◌≡◌, ◌≤◌, ◌+◌, ◌^◌, ◌↔◌, IsTrue, false, length, map, None, Some, Ok, Err, IfOk, IfErr, slice_get};
 
-use crate::change::Change;
 use crate::fault::EditFault;
-use crate::traces::Traces;
+use sbl_last_runs::{RunChange, Traces};
 use sbl_machine::{Item, ItemRef, Machine, Meter, Table, Why};
 use sbl_rows::{Pairs, Row};
 use sbl_run_state::MAX_WORD_LENGTH;
@@ -32,7 +31,7 @@ pub struct Bench {
     pub(crate) traces: Traces,
     pub(crate) meter: Meter,
     // the words that the last edit ran again, each with its run before
-    pub(crate) last: Vec<Change>,
+    pub(crate) last: Vec<RunChange>,
     // the pairs of stems and words, once the classes were asked for
     pub(crate) pairs: Option<Pairs>,
 }
@@ -43,9 +42,10 @@ impl Model for Bench {
     ghost use Rattle.sbl_script.specs.ParsedScript.{source_of};
     ghost use Rattle.sbl_machine.specs.MachineOf.{IsLinkedMachineOf};
     ghost use Rattle.sbl_bench.specs.KeptRuns.{KeptRuns};
-    ghost use Rattle.sbl_bench.specs.inside.KeptEntries.{words_in, IsKept};
-    ghost use Rattle.sbl_bench.specs.inside.Last.{last_changes};
-    ghost use Rattle.sbl_bench.specs.inside.Pairs.{IsIndexed};
+    ghost use Rattle.sbl_last_runs.specs.KeptEntries.{words_in};
+    ghost use Rattle.sbl_bench.specs.inside.KeptEntries.{IsKept};
+    ghost use Rattle.sbl_last_runs.specs.Last.{last_changes};
+    ghost use Rattle.sbl_last_runs.specs.Pairs.{IsIndexed};
     ghost use Rattle.sbl_rows.specs.Setting.{under};
 
     ghost Value = { KeptRuns };

@@ -1,68 +1,32 @@
 //! The changes that an edit of the script or of the limit makes. They are computed first, and then applied without an
-//! allocation.
+//! allocation (`make_changes` of sbl_last_runs).
 
-ghost use Rattle.std.specs.Prelude.{◌≡◌, ◌≤◌, ◌+◌, ◌-◌, ◌++◌, ◌∷◌, ℕ, [], length, map, OnOk, OnErr, IfOk, IfErr, IsSome, Some, All, false, if◌then◌else◌};
-ghost use Rattle.std.specs.Str.{bytes_eq};
+ghost use Rattle.std.specs.Prelude.{◌≡◌, ◌≤◌, ◌+◌, ◌-◌, ◌++◌, ◌∷◌, [], length, map, OnOk, IfOk, IfErr, All};
 ghost use Rattle.sbl_ast.specs.Source.{Source};
 ghost use Rattle.sbl_machine.specs.MachineOf.{IsLinkedMachineOf};
 ghost use Rattle.sbl_bench.specs.inside.Changes as spec;
-ghost use Rattle.sbl_bench.specs.inside.Changes.{affected_of, is_changed, reruns, view_change, view_run, AreAnew};
+ghost use Rattle.sbl_last_runs.specs.RunChanges.{view_change, view_run};
+ghost use Rattle.sbl_bench.specs.inside.Changes.{affected_of, reruns};
 ghost use Rattle.sbl_bench.specs.KeptRuns.{IsWord};
-ghost use Rattle.sbl_bench.specs.inside.KeptEntries.{words_in, AreFresh};
-ghost use Rattle.sbl_bench.specs.inside.Last.{last_changes, rows_between, word_found, word_run, AreApart, AreThere, Follows};
-ghost use Rattle.sbl_bench.specs.inside.Pairs.{IsUnique, Text, find, keys, same_text};
+ghost use Rattle.sbl_last_runs.specs.KeptEntries.{words_in};
+ghost use Rattle.sbl_last_runs.specs.Pairs.{IsUnique, same_text};
 ghost use Rattle.sbl_bench.specs.BreakingOff.{BreaksIfTold};
 ghost use Rattle.sbl_bench.specs.Contents.{max_runs};
-ghost use Rattle.sbl_rows.specs.Setting.{Setting, under};
+ghost use Rattle.sbl_rows.specs.Setting.{under};
 ghost use Rattle.sbl_bench.specs.inside.Stops.{IsStopOf};
 
 use crate::affected_words::{AffectedWords, is_affected};
 use crate::break_off::BreakOff;
 use crate::fault::EditFault;
 use crate::fresh_run::run_or_break;
-use crate::last_run::{LastRun, SharedLists};
-use crate::traces::{Traces, words_are_unique};
+use sbl_last_runs::{LastRun, RunChange, SharedLists, Traces, words_are_unique};
 use sbl_machine::{Machine, Meter, Table};
 use std::alloc::{AllocError, Global};
-use std::mem::swap;
-
-/// A word that an edit affects, and its new run.
-#[derive(Drop)]
-pub(crate) struct Change {
-    pub(crate) word: Vec<char>,
-    pub(crate) traced: LastRun,
-}
-
-/// Exchanges the run of a word of the vocabulary and the run of its change. Does not allocate.
-fn commit_one(traces: &mut Traces, change: &mut Change)
-    requires { IsSome (find change.old.word.items traces.old.entries) }
-    ensures finds { (w : Text) → find w.items traces.new.entries ≡ (if bytes_eq change.old.word.items w.items then Some change.old.traced else find w.items traces.old.entries) }
-    ensures before { word_run change.new ≡ word_found traces.old.entries change.old }
-    ensures keys { keys traces.new ≡ keys traces.old }
-{
-    if let Some(slot) = traces.get_mut(change.word.as_slice()) {
-        swap(slot, &mut change.traced);
-    }
-}
-
-/// Exchanges the run of each word of the changes and the run of its change. Does not allocate.
-fn commit(traces: &mut Traces, changes: &mut [Change])
-    requires there { AreThere traces.old.entries changes.old }
-    requires apart { AreApart changes.old }
-    ensures run { All (λ c. find c.word.items traces.new.entries ≡ Some c.traced) changes.old }
-    ensures others { (w : Text) → is_changed changes.old w.items ≡ false → find w.items traces.new.entries ≡ find w.items traces.old.entries }
-    ensures before { map word_run changes.new ≡ map (word_found traces.old.entries) changes.old }
-    ensures keys { keys traces.new ≡ keys traces.old }
-{
-    for change in changes.iter_mut() {
-        commit_one(traces, change);
-    }
-}
 
 /// Appends the change of a word. Returns `AllocError` if an allocation fails.
 fn push_change(
     alloc: Global,
-    changes: &mut Vec<Change>,
+    changes: &mut Vec<RunChange>,
     word: &[char],
     traced: LastRun,
 ) -> Result<(), AllocError>
@@ -70,7 +34,7 @@ fn push_change(
 {
     let word = Vec::from_slice(alloc, word)?;
     changes
-        .push(Change { word, traced })
+        .push(RunChange { word, traced })
         .map_err(|_| AllocError)
 }
 
@@ -106,7 +70,7 @@ fn run_words<B: BreakOff>(
     words: &[&[char]],
     meter: &mut Meter,
     break_off: &mut B,
-) -> Result<Vec<Change>, EditFault>
+) -> Result<Vec<RunChange>, EditFault>
     requires sound { All IsWord (map (λ w. w.now) words.now) }
     requires room { meter.old + length words.now ≤ max_runs }
     ensures changes { (s : Source) → IsLinkedMachineOf machine.now s → IfOk result (λ c. map view_change c.items ≡ reruns (under s limit) (map (λ w. w.now) words.now)) }
@@ -138,7 +102,7 @@ pub(crate) fn rerun<B: BreakOff>(
     meter: &mut Meter,
     traces: &Traces,
     break_off: &mut B,
-) -> Result<Vec<Change>, EditFault>
+) -> Result<Vec<RunChange>, EditFault>
     requires sound { All IsWord (words_in traces.now.entries) }
     ensures changes { (s : Source) → IsLinkedMachineOf machine.now s → IfOk result (λ c. map view_change c.items ≡ reruns (under s limit) (spec.met_words (affected_of affected.now) traces.now.entries)) }
     ensures counted { OnOk result (meter.new ≡ meter.old + length (spec.met_words (affected_of affected.now) traces.now.entries)) }
@@ -154,19 +118,4 @@ pub(crate) fn rerun<B: BreakOff>(
     }
     let changes = run_words(alloc, machine, limit, &words, meter, break_off)?;
     Ok(changes)
-}
-
-/// Applies the changes of an edit, and returns them with the runs before. Does not allocate.
-pub(crate) fn make_changes(traces: &mut Traces, changes: Vec<Change>) -> Vec<Change>
-    requires changes { (t : Setting) × AreAnew t traces.old.entries changes.items }
-    requires apart { AreApart changes.items }
-    requires unique { IsUnique same_text traces.old }
-    ensures fresh { (t : Setting) → AreAnew t traces.old.entries changes.items → AreFresh t traces.new.entries }
-    ensures words { words_in traces.new.entries ≡ words_in traces.old.entries }
-    ensures follows { Follows traces.old.entries result.items traces.new.entries }
-    ensures last { (s t : Setting) → AreFresh s traces.old.entries → AreAnew t traces.old.entries changes.items → last_changes traces.new.entries result.items ≡ rows_between s t changes.items }
-{
-    let mut changes = changes;
-    commit(traces, changes.as_mut_slice());
-    changes
 }

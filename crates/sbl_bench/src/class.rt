@@ -2,19 +2,14 @@
 
 ghost use Rattle.std.specs.Prelude.{◌≡◌, map, IfOk};
 ghost use Rattle.std.specs.Option.{option_map};
-ghost use Rattle.sbl_rows.specs.Classes.{in_order, view_class, words_of};
-ghost use Rattle.sbl_rows.specs.inside.ClassParts.{words_with};
-ghost use Rattle.sbl_bench.specs.inside.KeptEntries.{AreFresh, words_in};
-ghost use Rattle.sbl_bench.specs.inside.Pairs.{IsIndexed};
+ghost use Rattle.sbl_rows.specs.Classes.{view_class};
 ghost use Rattle.sbl_rows.specs.Rows.{rows_of};
-ghost use Rattle.sbl_rows.specs.Setting.{Setting};
 
 use crate::bench::Bench;
-use crate::pairs::pairs_of;
-use crate::traces::{Traces, words_are_unique};
+use sbl_last_runs::{pairs_of, words_are_unique, words_of_stem};
 use sbl_machine::Outcome;
-use sbl_rows::{Class, Pairs, classes_among, words_among};
-use std::alloc::{AllocError, Global};
+use sbl_rows::{Class, classes_among};
+use std::alloc::AllocError;
 
 impl Bench {
     ghost use Rattle.sbl_bench.specs.KeptRuns.{setting_of};
@@ -79,26 +74,5 @@ impl Bench {
         }
         let stem = Vec::from_slice(self.alloc, stem)?;
         Ok(Some(Class { stem, words }))
-    }
-}
-
-/// Returns the words with a stem, in order, by the pairs that are kept, or by new ones. Returns `AllocError` if an allocation
-/// fails.
-fn words_of_stem(
-    alloc: Global,
-    stem: &[char],
-    pairs: &Option<Pairs>,
-    traces: &Traces,
-) -> Result<Vec<Vec<char>>, AllocError>
-    requires indexed { IsIndexed traces.now.entries pairs.now }
-    ensures { IfOk result (λ words. (s : Setting) → AreFresh s traces.now.entries → words_of words.items ≡ in_order (words_with stem.now (rows_of s (words_in traces.now.entries)))) }
-{
-    words_are_unique(traces);
-    match pairs {
-        Some(pairs) => words_among(alloc, stem, pairs),
-        None => {
-            let pairs = pairs_of(alloc, traces)?;
-            words_among(alloc, stem, &pairs)
-        }
     }
 }

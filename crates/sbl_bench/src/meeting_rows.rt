@@ -3,13 +3,12 @@
 ghost use Rattle.std.specs.Prelude.{◌≡◌, ◌++◌, ◌∷◌, [], map, true, IfOk, OnOk};
 ghost use Rattle.std.specs.List.{filter};
 ghost use Rattle.sbl_bench.specs.inside.Changes.{affected_of, is_met};
-ghost use Rattle.sbl_bench.specs.inside.ShownRows.{row_shown, run_row};
+ghost use Rattle.sbl_last_runs.specs.ShownRows.{row_shown, run_row};
 ghost use Rattle.sbl_rows.specs.Rows.{view_row};
 
 use crate::affected_words::{AffectedWords, affected_by_items, is_affected};
 use crate::bench::Bench;
-use crate::last_run::LastRun;
-use crate::traces::Traces;
+use sbl_last_runs::{LastRun, Traces};
 use sbl_machine::Item;
 use sbl_machine::laws::one_item_alone;
 use sbl_rows::Row;

@@ -8,19 +8,20 @@ ghost use Rattle.indexmap.specs.Entry.{entry_map};
 ghost use Rattle.sbl_bench.specs.Vocabulary.{is_word, vocabulary, with_word};
 ghost use Rattle.sbl_bench.specs.Contents.{opening_fault, word_fault, IsFaultOrMemory};
 ghost use Rattle.sbl_bench.specs.inside.ProofNames.{is_full};
-ghost use Rattle.sbl_bench.specs.inside.KeptEntries.{words_in, IsKept};
+ghost use Rattle.sbl_last_runs.specs.KeptEntries.{words_in};
+ghost use Rattle.sbl_bench.specs.inside.KeptEntries.{IsKept};
 ghost use Rattle.sbl_semantics.specs.Limit.{default_limit};
 ghost use Rattle.sbl_rows.specs.Setting.{under};
 
 use crate::bench::{Bench, MAX_WORDS};
 use crate::fault::EditFault;
-use crate::last_run::{LastRun, SharedLists};
+use crate::fresh_run::keep;
 use crate::progress::{NoProgress, Progress};
 use crate::refusal::word_fault;
-use crate::traces::{Traces, has_word};
-use crate::word_hash::WordKeys;
+use crate::traces::has_word;
 use indexmap::IndexMap;
 use indexmap::map::{Entry, OccupiedEntry};
+use sbl_last_runs::{LastRun, SharedLists, Traces, WordKeys};
 use sbl_machine::{DEFAULT_LIMIT, Machine, Meter, Table};
 use sbl_script::Script;
 use std::alloc::Global;
@@ -168,7 +169,7 @@ fn take_word(
         Entry::Occupied(entry) => leave(entry),
         Entry::Vacant(entry) => {
             let traced = machine.trace(alloc, meter, entry.key().as_slice(), DEFAULT_LIMIT)?;
-            let last = lists.keep(alloc, meter, traced)?;
+            let last = keep(lists, alloc, meter, traced)?;
             entry.insert(last);
         }
     }

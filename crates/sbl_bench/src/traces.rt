@@ -5,27 +5,16 @@ ghost use Rattle.sbl_ast.specs.Source.{Source};
 ghost use Rattle.sbl_machine.specs.MachineOf.{IsLinkedMachineOf};
 ghost use Rattle.sbl_bench.specs.Vocabulary.{is_word};
 ghost use Rattle.sbl_bench.specs.KeptRuns.{IsWord};
-ghost use Rattle.sbl_bench.specs.inside.KeptEntries.{words_in, IsKept};
-ghost use Rattle.sbl_bench.specs.inside.Pairs.{IsOneMore, IsUnique, same_text};
+ghost use Rattle.sbl_last_runs.specs.KeptEntries.{words_in};
+ghost use Rattle.sbl_bench.specs.inside.KeptEntries.{IsKept};
+ghost use Rattle.sbl_last_runs.specs.Pairs.{IsOneMore};
 ghost use Rattle.sbl_rows.specs.Setting.{under};
 ghost use Rattle.sbl_bench.specs.inside.Stops.{IsStop};
 
 use crate::fault::EditFault;
-use crate::last_run::LastRun;
-use crate::word_hash::WordKeys;
-use indexmap::IndexMap;
+use sbl_last_runs::{LastRun, Traces};
 use sbl_machine::{Machine, Meter, Table};
 use std::alloc::Global;
-
-/// The words of a bench in their order, each with its last run. They are found by a hash with secret keys.
-pub(crate) type Traces = IndexMap<Vec<char>, LastRun, WordKeys>;
-
-/// A map does not contain a word twice.
-pub(crate) fn words_are_unique(traces: &Traces)
-    ensures { IsUnique same_text traces.now }
-{
-    let _count = traces.len();
-}
 
 /// Returns whether the word is in the vocabulary. Does not allocate.
 pub(crate) fn has_word(traces: &Traces, word: &[char]) -> bool

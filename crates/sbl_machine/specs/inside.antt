@@ -1,3 +1,2 @@
--- What the functions inside the crate promise each other, and names for proofs.
-pub mod BuiltFromParts
+-- What the functions inside the crate promise each other.
 pub mod LastTouches

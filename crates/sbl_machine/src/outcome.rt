@@ -1,6 +1,6 @@
 //! The results of a run.
 
-use sbl_semantics::{Event, Item, Outcome, Touch};
+use sbl_semantics::{Event, Item, Outcome};
 use std::collections::BTreeSet;
 
 /// The outcome of a run, the items that it touched, and the steps that it used.
@@ -19,17 +19,6 @@ pub struct Ran {
 pub struct RunEnd {
     /// The stem, or why there is none.
     pub outcome: Outcome,
-    /// The number of steps used; `limit` + 1 if the run was refused for its steps.
-    pub used: u64,
-}
-
-/// The same as `Ran`, with numbers instead of names.
-#[derive(Debug, Drop, PartialEq, Eq)]
-pub struct RunTrace {
-    /// The stem, or why there is none.
-    pub outcome: Outcome,
-    /// What the run touched, each once, in the order of first touch.
-    pub touches: Vec<Touch>,
     /// The number of steps used; `limit` + 1 if the run was refused for its steps.
     pub used: u64,
 }

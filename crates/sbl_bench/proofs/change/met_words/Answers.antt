@@ -1,7 +1,7 @@
 use Rattle.std.proofs.Common.{rules, ◌≡◌, ◌∙◌, ◌++◌, ◌∷◌, [], ℕ, List, Bor, true, false, map, ap, sym}
 use Rattle.std.proofs.lemmas.List.{map-append}
 use Rattle.sbl_bench.specs.inside.Changes.{affected_of, is_met}
-use Rattle.sbl_bench.specs.inside.KeptEntries.{KeptWord}
+use Rattle.sbl_last_runs.specs.KeptEntries.{KeptWord}
 use Rattle.sbl_bench.proofs.Meeting.{not_met, one_met}
 use Rattle.sbl_bench.proofs.change.met_words.Goals as goal
 

@@ -4,7 +4,8 @@ use Rattle.std.proofs.lemmas.Result.{err_from_is_err_and}
 use Rattle.sbl_bench.proofs.Breaking.{cut_more, cut_stops, told_more}
 use Rattle.sbl_bench.proofs.Listing.{sound_at}
 use Rattle.sbl_bench.proofs.Meeting.{run_is}
-use Rattle.sbl_bench.specs.inside.Changes.{Rerun, rerun_of, reruns, view_change}
+use Rattle.sbl_last_runs.specs.RunChanges.{Rerun, view_change}
+use Rattle.sbl_bench.specs.inside.Changes.{rerun_of, reruns}
 use Rattle.sbl_rows.proofs.Loops.{step_map}
 use Rattle.sbl_rows.proofs.SetFacts.{no_text}
 use Rattle.sbl_rows.specs.KnownOutcomes.{Text}

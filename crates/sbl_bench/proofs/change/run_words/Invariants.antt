@@ -1,7 +1,8 @@
 use Rattle.std.proofs.Common.{◌≡◌, ◌+◌, ◌++◌, ◌≤◌, drop, length, map}
 use Rattle.sbl_ast.specs.Source.{Source}
 use Rattle.sbl_machine.specs.MachineOf.{IsLinkedMachineOf}
-use Rattle.sbl_bench.specs.inside.Changes.{reruns, view_change}
+use Rattle.sbl_last_runs.specs.RunChanges.{view_change}
+use Rattle.sbl_bench.specs.inside.Changes.{reruns}
 use Rattle.sbl_rows.specs.Setting.{under}
 use Rattle.sbl_bench.proofs.change.run_words.Given as goal
 

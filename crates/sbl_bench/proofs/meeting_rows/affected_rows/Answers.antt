@@ -1,8 +1,8 @@
 use Rattle.std.proofs.Common.{rules, ◌≡◌, ◌∙◌, ◌++◌, ◌∷◌, [], ℕ, List, true, false, map, ap, sym}
 use Rattle.sbl_rows.specs.Rows.{view_row}
 use Rattle.sbl_bench.specs.inside.Changes.{affected_of, is_met}
-use Rattle.sbl_bench.specs.inside.ShownRows.{row_shown, run_row}
-use Rattle.sbl_bench.specs.inside.KeptEntries.{KeptWord}
+use Rattle.sbl_last_runs.specs.ShownRows.{row_shown, run_row}
+use Rattle.sbl_last_runs.specs.KeptEntries.{KeptWord}
 use Rattle.sbl_bench.proofs.MeetingRows.{not_shown, one_shown}
 use Rattle.sbl_bench.proofs.meeting_rows.affected_rows.Goals as goal
 

@@ -1,7 +1,7 @@
 use Rattle.std.proofs.Common.{◌≡◌, ◌++◌, map}
 use Rattle.std.specs.List.{filter}
 use Rattle.sbl_bench.specs.inside.Changes.{affected_of, is_met}
-use Rattle.sbl_bench.specs.inside.ShownRows.{row_shown}
+use Rattle.sbl_last_runs.specs.ShownRows.{row_shown}
 use Rattle.sbl_rows.specs.Rows.{view_row}
 use Rattle.sbl_bench.proofs.meeting_rows.affected_rows.Given as goal
 

@@ -6,7 +6,8 @@ use Rattle.sbl_ast.specs.Source.{Source}
 use Rattle.sbl_machine.specs.MachineOf.{IsLinkedMachineOf}
 use Rattle.sbl_semantics.specs.Outcome.{outcome_of, run_of, touches_of, used_of}
 use Rattle.sbl_bench.specs.KeptRuns.{IsWord}
-use Rattle.sbl_bench.specs.inside.KeptEntries.{words_in, IsKept}
+use Rattle.sbl_last_runs.specs.KeptEntries.{words_in}
+use Rattle.sbl_bench.specs.inside.KeptEntries.{IsKept}
 use Rattle.sbl_semantics.specs.Limit.{default_limit}
 use Rattle.sbl_rows.specs.Setting.{under}
 use Rattle.sbl_bench.specs.Contents.{word_fault}

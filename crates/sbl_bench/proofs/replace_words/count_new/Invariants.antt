@@ -1,6 +1,6 @@
 use Rattle.std.proofs.Common.{◌≡◌, ◌+◌, ◌≤◌, drop, length}
 use Rattle.sbl_rows.specs.Classes.{texts_of}
-use Rattle.sbl_bench.specs.inside.KeptEntries.{words_in}
+use Rattle.sbl_last_runs.specs.KeptEntries.{words_in}
 use Rattle.sbl_bench.specs.inside.WordLists.{new_words}
 use Rattle.sbl_bench.proofs.replace_words.count_new.Given as goal
 

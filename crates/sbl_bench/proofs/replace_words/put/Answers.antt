@@ -1,5 +1,5 @@
 use Rattle.std.proofs.Common.{◌∙◌, ◌++◌, [], ◌∷◌, List, ℕ, ap, sym, subst}
-use Rattle.sbl_bench.specs.inside.KeptEntries.{AreFresh, IsFresh, words_in}
+use Rattle.sbl_last_runs.specs.KeptEntries.{AreFresh, IsFresh, words_in}
 use Rattle.sbl_bench.proofs.Listing.{goes_last_new}
 use Rattle.sbl_bench.proofs.MapEntries.{fresh-push, words-push}
 use Rattle.sbl_bench.proofs.replace_words.put.Goals as goal

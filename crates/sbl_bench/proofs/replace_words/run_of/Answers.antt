@@ -1,10 +1,11 @@
 use Rattle.std.proofs.Common.{◌+◌, ◌∙◌, ℕ, IfErr, arith, ap, subst, sym}
 use Rattle.std.proofs.lemmas.Result.{on_ok_weaker}
 use Rattle.sbl_rows.specs.Setting.{under}
-use Rattle.sbl_bench.specs.inside.KeptEntries.{words_in}
+use Rattle.sbl_last_runs.specs.KeptEntries.{words_in}
 use Rattle.sbl_bench.specs.inside.Stops.{IsCut}
 use Rattle.sbl_bench.proofs.Listing.{no_run_of, one_run_of}
-use Rattle.sbl_bench.proofs.Tracing.{fresh_found, is_there, not_there}
+use Rattle.sbl_last_runs.proofs.Entries.{fresh_found}
+use Rattle.sbl_bench.proofs.Tracing.{is_there, not_there}
 use Rattle.sbl_bench.proofs.replace_words.run_of.Goals as goal
 
 pub run_or_break-requires-clause-room : goal.run_or_break-requires-clause-room

@@ -5,7 +5,7 @@ use Rattle.sbl_rows.specs.KnownOutcomes.{Text}
 use Rattle.sbl_rows.specs.Setting.{under}
 use Rattle.sbl_rows.proofs.Loops.{next, so_far}
 use Rattle.sbl_rows.proofs.SetFacts.{no_text}
-use Rattle.sbl_bench.specs.inside.KeptEntries.{words_in}
+use Rattle.sbl_last_runs.specs.KeptEntries.{words_in}
 use Rattle.sbl_bench.specs.inside.WordLists.{new_words, runs_of_word}
 use Rattle.sbl_bench.proofs.Breaking.{cut_more, cut_stops, told_more}
 use Rattle.sbl_bench.proofs.Listing.{new_after, new_count_at, sound_at}

@@ -3,7 +3,7 @@ use Rattle.sbl_ast.specs.Source.{Source}
 use Rattle.sbl_machine.specs.MachineOf.{IsLinkedMachineOf}
 use Rattle.sbl_rows.specs.Classes.{texts_of}
 use Rattle.sbl_rows.specs.Setting.{under}
-use Rattle.sbl_bench.specs.inside.KeptEntries.{AreFresh, words_in}
+use Rattle.sbl_last_runs.specs.KeptEntries.{AreFresh, words_in}
 use Rattle.sbl_bench.specs.inside.WordLists.{new_words}
 use Rattle.sbl_bench.proofs.replace_words.runs_of.Given as goal
 

@@ -4,11 +4,13 @@ use Rattle.std.specs.Str.{bytes_eq}
 use Rattle.std.specs.declared.vec.Vec.{Vec}
 use Rattle.std.specs.declared.alloc.Global.{Global}
 use Rattle.sbl_semantics.specs.Outcome.{outcome_of, run_of, touches_of, used_of}
-use Rattle.sbl_bench.specs.inside.KeptEntries.{KeptWord, words_in, IsKept}
-use Rattle.sbl_bench.specs.inside.Pairs.{IsOneMore}
+use Rattle.sbl_last_runs.specs.KeptEntries.{KeptWord, words_in}
+use Rattle.sbl_bench.specs.inside.KeptEntries.{IsKept}
+use Rattle.sbl_last_runs.specs.Pairs.{IsOneMore}
 use Rattle.sbl_rows.specs.Setting.{under}
 use Rattle.indexmap.proofs.CallerLemmas.{insert_entry-new}
-use Rattle.sbl_bench.proofs.MapEntries.{is_key, not_found, words-push, kept-push, put_more}
+use Rattle.sbl_last_runs.proofs.Entries.{is_key}
+use Rattle.sbl_bench.proofs.MapEntries.{not_found, words-push, kept-push, put_more}
 use Rattle.sbl_bench.proofs.traces.put_last.Goals as goal
 
 -- the new word goes last

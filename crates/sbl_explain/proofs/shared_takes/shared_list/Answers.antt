@@ -1,5 +1,5 @@
 use Rattle.std.proofs.Common.{◌≡◌, ◌∙◌, ap, sym, IfOk}
-use Rattle.sbl_bench.proofs.TouchFacts.{ok_more}
+use Rattle.sbl_last_runs.proofs.TouchFacts.{ok_more}
 use Rattle.sbl_explain.specs.Kept.{Names, view_list}
 use Rattle.sbl_explain.proofs.shared_takes.shared_list.Goals as goal
 

@@ -3,11 +3,11 @@ use Rattle.std.proofs.lemmas.Result.{err_from_is_err_and}
 use Rattle.sbl_script.specs.ParsedScript.{source_of}
 use Rattle.sbl_bench.specs.declared.fault.EditFault.TheVariants.{OutOfMemory, MeterFull}
 use Rattle.sbl_bench.specs.KeptRuns.{KeptRuns, contents_of}
-use Rattle.sbl_bench.specs.inside.KeptEntries.{KeptWord, words_in}
+use Rattle.sbl_last_runs.specs.KeptEntries.{KeptWord, words_in}
 use Rattle.sbl_rows.specs.ChangedRows.{changed_rows}
 use Rattle.sbl_bench.specs.LeavesChanges.{rows_now}
 use Rattle.sbl_rows.specs.Rows.{rows_of}
-use Rattle.sbl_bench.specs.inside.Last.{last_changes}
+use Rattle.sbl_last_runs.specs.Last.{last_changes}
 use Rattle.sbl_bench.proofs.LastChanges.{no_rows_change}
 use Rattle.sbl_bench.specs.Edits.{Edits, Add}
 use Rattle.sbl_bench.specs.Contents.{Contents}

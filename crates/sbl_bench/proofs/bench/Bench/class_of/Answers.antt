@@ -6,9 +6,9 @@ use Rattle.sbl_semantics.specs.Outcome.{outcome_of}
 use Rattle.sbl_rows.specs.Classes.{class_of, class_with, in_order, stem_of}
 use Rattle.sbl_rows.specs.inside.ClassParts.{words_with}
 use Rattle.sbl_bench.specs.KeptRuns.{setting_of, KeptRuns}
-use Rattle.sbl_bench.specs.inside.KeptEntries.{words_in}
+use Rattle.sbl_last_runs.specs.KeptEntries.{words_in}
 use Rattle.sbl_rows.specs.Rows.{rows_of}
-use Rattle.sbl_bench.proofs.ClassFacts.{class_found}
+use Rattle.sbl_last_runs.proofs.ClassFacts.{class_found}
 use Rattle.sbl_bench.proofs.bench.Bench.class_of.Goals as goal
 
 pub returns-in_ok-stem-in-Stem : goal.returns-in_ok-stem-in-Stem

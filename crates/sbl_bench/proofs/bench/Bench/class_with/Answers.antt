@@ -8,7 +8,7 @@ use Rattle.sbl_rows.specs.Classes.{Class, classes_of, in_order, words_of}
 use Rattle.sbl_rows.specs.inside.ClassParts.{words_with}
 use Rattle.sbl_rows.specs.Rows.{rows_of}
 use Rattle.sbl_bench.specs.KeptRuns.{KeptRuns, setting_of}
-use Rattle.sbl_bench.specs.inside.KeptEntries.{words_in}
+use Rattle.sbl_last_runs.specs.KeptEntries.{words_in}
 use Rattle.sbl_bench.proofs.ClassOfStem.{class_absent, class_there}
 use Rattle.sbl_bench.proofs.bench.Bench.class_with.Goals as goal
 

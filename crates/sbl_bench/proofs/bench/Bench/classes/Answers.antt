@@ -4,10 +4,10 @@ use Rattle.sbl_rows.specs.Setting.{under}
 use Rattle.sbl_rows.specs.Classes.{classes_of, stem_pairs}
 use Rattle.sbl_rows.specs.Grouping.{put_pairs}
 use Rattle.sbl_bench.specs.KeptRuns.{setting_of, KeptRuns}
-use Rattle.sbl_bench.specs.inside.KeptEntries.{words_in}
-use Rattle.sbl_bench.specs.inside.Pairs.{IsIndexed}
+use Rattle.sbl_last_runs.specs.KeptEntries.{words_in}
+use Rattle.sbl_last_runs.specs.Pairs.{IsIndexed}
 use Rattle.sbl_rows.specs.Rows.{rows_of}
-use Rattle.sbl_bench.proofs.ClassFacts.{kept_sorted}
+use Rattle.sbl_last_runs.proofs.ClassFacts.{kept_sorted}
 use Rattle.sbl_rows.proofs.GroupFacts.{grouped_all}
 use Rattle.sbl_rows.proofs.Ranging.{if_ok_weaker, own_keys}
 use Rattle.sbl_bench.proofs.bench.Bench.classes.Goals as goal

@@ -5,7 +5,7 @@ use Rattle.sbl_bench.specs.inside.Changes.{Brings, IsExchange, affected_of}
 use Rattle.sbl_bench.specs.Contents.{Contents}
 use Rattle.sbl_bench.specs.Edits.{BeforeEdit}
 use Rattle.sbl_bench.specs.KeptRuns.{KeptRuns, contents_of}
-use Rattle.sbl_bench.specs.inside.KeptEntries.{words_in}
+use Rattle.sbl_last_runs.specs.KeptEntries.{words_in}
 use Rattle.sbl_rows.specs.Setting.{under}
 use Rattle.sbl_bench.proofs.Bringing.{exchange_brings}
 use Rattle.sbl_bench.proofs.bench.Bench.exchange.Goals as goal

@@ -3,16 +3,17 @@ use Rattle.sbl_script.specs.ParsedScript.{source_of}
 use Rattle.sbl_bench.specs.declared.fault.EditFault.TheVariants.{Absent}
 use Rattle.sbl_bench.specs.Edits.{Edits, Remove}
 use Rattle.sbl_bench.specs.KeptRuns.{KeptRuns, contents_of}
-use Rattle.sbl_bench.specs.inside.KeptEntries.{IsKept, KeptWord, words_in}
+use Rattle.sbl_last_runs.specs.KeptEntries.{KeptWord, words_in}
+use Rattle.sbl_bench.specs.inside.KeptEntries.{IsKept}
 use Rattle.sbl_rows.specs.ChangedRows.{changed_rows}
 use Rattle.sbl_bench.specs.LeavesChanges.{rows_now}
 use Rattle.sbl_rows.specs.Rows.{rows_of}
-use Rattle.sbl_bench.specs.inside.Last.{last_changes}
+use Rattle.sbl_last_runs.specs.Last.{last_changes}
 use Rattle.sbl_bench.proofs.LastChanges.{no_rows_change}
 use Rattle.sbl_bench.specs.Contents.{Contents}
 use Rattle.sbl_rows.specs.Setting.{under}
 use Rattle.sbl_bench.proofs.Refusals.{no_word, removes}
-use Rattle.sbl_bench.specs.inside.Pairs.{IsIndexed}
+use Rattle.sbl_last_runs.specs.Pairs.{IsIndexed}
 use Rattle.sbl_bench.proofs.MapEntries.{found_word, kept-remove, key_taken, words-remove}
 use Rattle.sbl_bench.proofs.bench.Bench.remove.Goals as goal
 

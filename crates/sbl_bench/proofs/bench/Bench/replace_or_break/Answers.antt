@@ -8,7 +8,7 @@ use Rattle.sbl_bench.specs.Contents.{Contents}
 use Rattle.sbl_rows.specs.Setting.{under}
 use Rattle.sbl_bench.specs.Edits.{Edits, Replace, fault_of_script}
 use Rattle.sbl_bench.specs.KeptRuns.{KeptRuns, contents_of}
-use Rattle.sbl_bench.specs.inside.KeptEntries.{words_in}
+use Rattle.sbl_last_runs.specs.KeptEntries.{words_in}
 use Rattle.sbl_bench.specs.declared.fault.EditFault.TheVariants.{OutOfMemory}
 use Rattle.sbl_semantics.specs.TouchedItems.{item_of}
 use Rattle.sbl_bench.specs.inside.Changes.{IsTaken}

@@ -8,7 +8,7 @@ use Rattle.sbl_bench.specs.BreakingOff.{EditsOrBreaks}
 use Rattle.sbl_bench.specs.Contents.{Contents}
 use Rattle.sbl_bench.specs.Edits.{Edits, Whole}
 use Rattle.sbl_bench.specs.KeptRuns.{KeptRuns, contents_of}
-use Rattle.sbl_bench.specs.inside.KeptEntries.{words_in}
+use Rattle.sbl_last_runs.specs.KeptEntries.{words_in}
 use Rattle.sbl_rows.specs.Setting.{under}
 use Rattle.sbl_bench.proofs.Breaking.{ends, text_fault_ends, untold}
 use Rattle.sbl_bench.proofs.Bringing.{whole_exchange}

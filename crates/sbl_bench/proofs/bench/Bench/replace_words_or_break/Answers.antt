@@ -11,10 +11,10 @@ use Rattle.sbl_bench.specs.BreakingOff.{EditsOrBreaks}
 use Rattle.sbl_bench.specs.Contents.{Contents, max_runs, opening_fault}
 use Rattle.sbl_bench.specs.Edits.{Edits, Words}
 use Rattle.sbl_bench.specs.KeptRuns.{IsWord, KeptRuns, contents_of}
-use Rattle.sbl_bench.specs.inside.KeptEntries.{KeptWord, words_in}
+use Rattle.sbl_last_runs.specs.KeptEntries.{KeptWord, words_in}
 use Rattle.sbl_bench.specs.LeavesChanges.{rows_now}
 use Rattle.sbl_bench.specs.Vocabulary.{vocabulary}
-use Rattle.sbl_bench.specs.inside.Last.{last_changes}
+use Rattle.sbl_last_runs.specs.Last.{last_changes}
 use Rattle.sbl_bench.specs.inside.Stops.{IsStopOf}
 use Rattle.sbl_bench.specs.inside.WordLists.{new_words}
 use Rattle.sbl_bench.proofs.Breaking.{ends, list_ends, untold}

@@ -7,7 +7,7 @@ use Rattle.sbl_semantics.specs.declared.outcome.Outcome.{Outcome}
 use Rattle.sbl_semantics.specs.Outcome.{outcome_of}
 use Rattle.sbl_bench.specs.KeptRuns.{setting_of, KeptRuns}
 use Rattle.sbl_rows.specs.Rows.{Row, rows_of}
-use Rattle.sbl_bench.proofs.MapEntries.{row_shown, rows_shown}
+use Rattle.sbl_last_runs.proofs.Entries.{row_shown, rows_shown}
 use Rattle.sbl_bench.proofs.bench.Bench.row.Goals as goal
 
 -- a word and its outcome, as a row

@@ -6,7 +6,7 @@ use Rattle.sbl_semantics.specs.Outcome.{outcome_of}
 use Rattle.sbl_bench.specs.KeptRuns.{setting_of, KeptRuns}
 use Rattle.sbl_rows.specs.Rows.{Row, rows_of}
 use Rattle.sbl_rows.specs.Setting.{under}
-use Rattle.sbl_bench.proofs.ClassFacts.{no_row, row_there}
+use Rattle.sbl_last_runs.proofs.ClassFacts.{no_row, row_there}
 use Rattle.sbl_bench.proofs.bench.Bench.row_of.Goals as goal
 
 -- a word and its outcome, as a row

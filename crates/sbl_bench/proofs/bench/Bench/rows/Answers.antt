@@ -2,9 +2,9 @@ use Rattle.std.proofs.Common.{◌∙◌, List, ap, map}
 use Rattle.sbl_script.specs.ParsedScript.{source_of}
 use Rattle.sbl_rows.specs.Setting.{under}
 use Rattle.sbl_bench.specs.KeptRuns.{setting_of, KeptRuns}
-use Rattle.sbl_bench.specs.inside.KeptEntries.{KeptWord}
+use Rattle.sbl_last_runs.specs.KeptEntries.{KeptWord}
 use Rattle.sbl_rows.specs.Rows.{rows_of}
-use Rattle.sbl_bench.proofs.MapEntries.{row_shown, rows_shown}
+use Rattle.sbl_last_runs.proofs.Entries.{row_shown, rows_shown}
 use Rattle.sbl_bench.proofs.bench.Bench.rows.Goals as goal
 
 pub loop-word-init : goal.loop-word-init

@@ -6,12 +6,12 @@ use Rattle.sbl_bench.specs.inside.Changes.{Brings, affected_of}
 use Rattle.sbl_bench.specs.BreakingOff.{EditsOrBreaks}
 use Rattle.sbl_bench.specs.Edits.{Edit, Edits, Limit, is_limit}
 use Rattle.sbl_bench.specs.KeptRuns.{IsWord, KeptRuns, contents_of}
-use Rattle.sbl_bench.specs.inside.KeptEntries.{KeptWord, words_in}
+use Rattle.sbl_last_runs.specs.KeptEntries.{KeptWord, words_in}
 use Rattle.sbl_rows.specs.ChangedRows.{changed_rows}
 use Rattle.sbl_bench.specs.Contents.{Contents}
-use Rattle.sbl_bench.specs.inside.Last.{Follows, last_changes}
-use Rattle.sbl_bench.specs.inside.Pairs.{IsIndexed}
-use Rattle.sbl_bench.specs.declared.change.Change.{Change}
+use Rattle.sbl_last_runs.specs.Last.{Follows, last_changes}
+use Rattle.sbl_last_runs.specs.Pairs.{IsIndexed}
+use Rattle.sbl_last_runs.specs.declared.change.RunChange.{RunChange}
 use Rattle.sbl_bench.specs.LeavesChanges.{rows_now}
 use Rattle.sbl_rows.specs.Rows.{rows_of}
 use Rattle.sbl_rows.specs.Setting.{under}
@@ -85,7 +85,7 @@ invariant_of-self-2 g c =
         sound = subst (All IsWord) (sym words) c.self.invariant.1.sound;
         room = let x = words_length fs in let y = words_length es in let z = ap length words in let r = c.self.invariant.1.room in omega arith;
       },
-      c.follow.ensures es (subst (λ (l : List Change). Follows es l fs) (sym c.as_slice.ensures.value) c.make_changes-before.ensures.follows) (subst (IsIndexed es) (sym c.take.ensures.value) c.self.invariant.2),
+      c.follow.ensures es (subst (λ (l : List RunChange). Follows es l fs) (sym c.as_slice.ensures.value) c.make_changes-before.ensures.follows) (subst (IsIndexed es) (sym c.take.ensures.value) c.self.invariant.2),
     )
 
 pub returns-clause-edits : goal.returns-clause-edits

@@ -1,6 +1,0 @@
-use Rattle.std.proofs.Common.{subst}
-use Rattle.sbl_bench.specs.inside.Pairs.{IsIndexed}
-use Rattle.sbl_bench.proofs.pairs.follow.Goals as goal
-
-pub returns-in-Ok : goal.returns-in-Ok
-returns-in-Ok c = λ old f indexed. c.in-Ok.ensures old f (subst (IsIndexed old) c.in-Some.is indexed)

@@ -1,6 +1,0 @@
-use Rattle.sbl_bench.specs.WordHash.{with_number}
-use Rattle.sbl_bench.proofs.word_hash.WordHasher.take.Goals as goal
-
-pub returns : goal.returns
-unfolding with_number
-returns c = rw c.multiply-self.ensures

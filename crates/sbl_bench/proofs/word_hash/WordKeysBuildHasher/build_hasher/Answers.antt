@@ -1,7 +1,0 @@
-use Rattle.std.proofs.Common.{refl}
-use Rattle.sbl_bench.specs.WordHash.{initial}
-use Rattle.sbl_bench.proofs.word_hash.WordKeysBuildHasher.build_hasher.Goals as goal
-
-pub returns : goal.returns
-unfolding initial
-returns c = refl
