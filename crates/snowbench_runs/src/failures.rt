@@ -1,14 +1,13 @@
 //! Lines on standard error, and keys for the hash of words.
 
-use sbl_messages::{FAILED, Failure};
+ghost use Rattle.std.specs.Prelude.{◌≡◌, ◌≢◌};
+
+use sbl_messages::{FAILED, Failure, NO_KEYS};
 use snowbench::{Verb, WordKeys};
 use std::hash::RandomState;
 
 /// The line if an allocation fails.
 const NO_MEMORY: &str = "snowbench: 49 OutOfMemory";
-
-/// The line if the system gives no random numbers. The keys of the hash of words are made of them.
-const NO_KEYS: &str = "error: the system gives no random numbers";
 
 /// Prints a line.
 pub(crate) fn print_line(rt: &HostRuntime, line: &str) {
@@ -23,7 +22,11 @@ pub(crate) fn print_if_any(rt: &HostRuntime, text: Option<String>) {
 }
 
 /// Prints why a run ended early, and returns the exit status.
-pub(crate) fn print_failure(rt: &HostRuntime, verb: Verb, failure: Failure) -> u8 {
+pub fn print_failure(rt: &HostRuntime, verb: Verb, failure: Failure) -> u8
+    ensures closed { failure.entry ≡ Failure.ClosedPipe → result ≡ 141 }
+    ensures compare { failure.entry ≢ Failure.ClosedPipe → verb ≡ Verb.Compare → result ≡ 2 }
+    ensures memory { failure.entry ≡ Failure.OutOfMemory → verb ≢ Verb.Compare → result ≡ 1 }
+{
     let status = failure.status(verb);
     match failure {
         Failure::ClosedPipe => {}
@@ -38,15 +41,10 @@ pub(crate) fn print_failure(rt: &HostRuntime, verb: Verb, failure: Failure) -> u
     status
 }
 
-/// Returns what keys for the hash of words are made of.
-pub(crate) fn random_keys(rt: &HostRuntime) -> Result<RandomState, Failure> {
-    match RandomState::new(rt) {
-        Ok(keys) => Ok(keys),
-        Err(_) => Err(Failure::Fixed(NO_KEYS, FAILED)),
-    }
-}
-
 /// Returns keys for the hash of words.
 pub(crate) fn word_keys(rt: &HostRuntime) -> Result<WordKeys, Failure> {
-    Ok(WordKeys::new(random_keys(rt)?))
+    match RandomState::new(rt) {
+        Ok(keys) => Ok(WordKeys::new(keys)),
+        Err(_) => Err(Failure::Fixed(NO_KEYS, FAILED)),
+    }
 }

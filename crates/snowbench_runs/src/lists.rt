@@ -1,5 +1,7 @@
 //! `run --as FORM`: the words and stems of files as a list.
 
+ghost use Rattle.std.specs.Prelude.{◌≤◌, IfOk};
+
 use crate::failures::{print_line, word_keys};
 use crate::files::read_files;
 use sbl_messages::{
@@ -14,7 +16,9 @@ pub(crate) fn run_list(
     wanted: &Wanted,
     form: &str,
     names: FileNames<'_>,
-) -> Result<u8, Failure> {
+) -> Result<u8, Failure>
+    ensures status { IfOk result (λ status. status ≤ 2) }
+{
     let Some(kind) = list_kind(form) else {
         return Err(Failure::Fixed(NO_FORM, REFUSED));
     };
