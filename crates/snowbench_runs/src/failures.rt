@@ -23,9 +23,9 @@ pub(crate) fn print_if_any(rt: &HostRuntime, text: Option<String>) {
 
 /// Prints why a run ended early, and returns the exit status.
 pub fn print_failure(rt: &HostRuntime, verb: Verb, failure: Failure) -> u8
-    ensures closed { failure.entry ≡ Failure.ClosedPipe → result ≡ 141 }
-    ensures compare { failure.entry ≢ Failure.ClosedPipe → verb ≡ Verb.Compare → result ≡ 2 }
-    ensures memory { failure.entry ≡ Failure.OutOfMemory → verb ≢ Verb.Compare → result ≡ 1 }
+    ensures closed { failure ≡ Failure.ClosedPipe → result ≡ 141 }
+    ensures compare { failure ≢ Failure.ClosedPipe → verb ≡ Verb.Compare → result ≡ 2 }
+    ensures memory { failure ≡ Failure.OutOfMemory → verb ≢ Verb.Compare → result ≡ 1 }
 {
     let status = failure.status(verb);
     match failure {
