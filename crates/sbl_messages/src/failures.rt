@@ -14,6 +14,9 @@ pub const REFUSED: u8 = 2;
 /// The exit status after a fault or a difference.
 pub const FAILED: u8 = 1;
 
+/// The line if the system gives no random numbers. The keys of the hash of words are made of them.
+pub const NO_KEYS: &str = "error: the system gives no random numbers";
+
 /// The exit status after the reader of a pipe has closed it, as of a program that the signal ends.
 const CLOSED_PIPE: u8 = 141;
 

@@ -14,10 +14,10 @@ mod streams;
 
 pub use comparison_texts::{compare_failure, words_of_pair};
 pub use counts::{counts_text, milliseconds_in, progress_text, same_count};
-pub use failures::{FAILED, Failure, REFUSED, plain, strict_status};
+pub use failures::{FAILED, Failure, NO_KEYS, REFUSED, plain, strict_status};
 pub use fault_texts::{hint, input_failure};
 pub use list_forms::{NO_COMMANDS, NO_FORM, NO_STEMS, left_out_text, list_kind};
-pub use refused_texts::{lines_before, refused_edit_text, refused_source_text, start_text};
+pub use refused_texts::{lines_before, refused_block_text, refused_edit_text, refused_script_text};
 pub use run_files::{
     FileNames, NamedFile, RunFiles, file_name, files_failure, reads_twice, refuse_twice,
     unread_failure, unread_input_failure,

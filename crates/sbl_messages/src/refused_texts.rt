@@ -6,7 +6,6 @@ use crate::fault_texts::FaultText;
 use sbl_bench::{Bench, EditFault};
 use sbl_diagnostics::{TypedBlock, fault_of, part_text, script_fault_text, whole_text};
 use sbl_sessions::part_of;
-use sbl_work::{Paths, RefusedSource};
 use snowbench::RefusedEdit;
 use std::alloc::Global;
 
@@ -65,36 +64,36 @@ fn edit_text<'x>(
     block_text(alloc, edit.line.as_str(), typed)
 }
 
-/// Returns what there is to say on the script that work does not begin with, without characters that a terminal obeys. Returns `None` if
-/// there is nothing to say, or if an allocation fails.
-pub fn start_text(alloc: Global, paths: &Paths, text: &[u8]) -> Option<String> {
-    let path = paths.from.as_ref().unwrap_or(&paths.script);
-    plain_if_any(file_text(alloc, path.as_str(), text, paths.external.as_str()))
+/// Returns what there is to say on the script of a file that work refuses, without characters that a terminal obeys. Returns `None` if there
+/// is nothing to say, or if an allocation fails.
+pub fn refused_script_text(
+    alloc: Global,
+    path: &str,
+    text: &[u8],
+    external: &str,
+) -> Option<String> {
+    plain_if_any(file_text(alloc, path, text, external))
 }
 
-/// Returns what there is to say on a text that work refuses, without characters that a terminal obeys. Returns `None` if there is nothing to
-/// say, or if an allocation fails.
-pub fn refused_source_text(
+/// Returns what there is to say on the block after a line of work that is refused, without characters that a terminal obeys. Returns `None`
+/// if there is nothing to say, or if an allocation fails.
+pub fn refused_block_text(
     alloc: Global,
     bench: &Bench,
-    paths: &Paths,
-    refused: &RefusedSource,
+    external: &str,
+    line: &str,
+    block: &[u8],
 ) -> Option<String> {
-    plain_if_any(source_text(alloc, bench, paths.external.as_str(), refused))
+    plain_if_any(text_under(alloc, bench, external, line, block))
 }
 
-/// Returns the lines on the fault of a file or of a block.
-fn source_text(alloc: Global, bench: &Bench, external: &str, refused: &RefusedSource) -> FaultText {
-    match refused {
-        RefusedSource::File { path, text } => file_text(alloc, path.as_str(), text, external),
-        RefusedSource::Block { line, text } => {
-            let script = bench.script().print(alloc)?;
-            work_block_text(alloc, script.as_bytes(), external, line.as_str(), text)
-        }
-    }
+/// Returns the lines on the fault of the block after a line of work, under the script of a bench.
+fn text_under(alloc: Global, bench: &Bench, external: &str, line: &str, block: &[u8]) -> FaultText {
+    let script = bench.script().print(alloc)?;
+    work_block_text(alloc, script.as_bytes(), external, line, block)
 }
 
-/// Returns the lines on the fault of the block after a line of work.
+/// Returns the lines on the fault of the block after a line of work, under a script.
 fn work_block_text<'x>(
     alloc: Global,
     script: &'x [u8],

@@ -38,7 +38,7 @@ use sbl_saving::{ReadFault, SaveFault, read_file};
 use sbl_sessions::{Reply, write_reply};
 use std::alloc::Global;
 use std::hash::RandomState;
-use std::mem::replace;
+use std::mem::{forget, replace};
 use std::rt::Files;
 
 /// What is written before each line is read, if work is done at a terminal.
@@ -248,7 +248,10 @@ fn serve_bench<F: Files + AllocGlobal, R: Source + Drop, W: Sink, S: Observer>(
     ensures writes_in_time { WritesInTime W.tally writer.old writer.new }
 {
     let mut desk = Desk::new(lines.alloc(), bench, text, may_break)?;
-    serve(folder, &mut desk, bench, prompt, lines, writer, observer)
+    let served = serve(folder, &mut desk, bench, prompt, lines, writer, observer);
+    // As of the bench: the program ends, and no destructor of a desk need be proved here.
+    forget(desk);
+    served
 }
 
 /// Returns what is written before each line is read.
@@ -293,6 +296,8 @@ fn work_on<F: Files + AllocGlobal, R: Source + Drop, W: Sink, S: Observer>(
         writer,
         observer,
     );
+    // The program ends, so the system takes the memory back: no destructor of a script need be proved here.
+    forget(folder);
     bench.leak();
     match served {
         Ok(()) => Ok(()),

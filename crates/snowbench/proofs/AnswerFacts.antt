@@ -18,8 +18,8 @@ use Rattle.snowbench.specs.WholeSession.{IsWholeSession, as_load}
 use Rattle.sbl_batch.specs.Filter.{IsFiltered}
 use Rattle.snowbench.specs.StemmedRows.{IsStemmed}
 use Rattle.snowbench.specs.Program.{IsAnswer, IsReported, IsWritten, fault_line}
-use Rattle.snowbench.specs.declared.command_line.Verb.{Verb}
-use Rattle.snowbench.specs.declared.command_line.Verb.TheVariants as verb
+use Rattle.sbl_command_line.specs.declared.command_line.Verb.{Verb}
+use Rattle.sbl_command_line.specs.declared.command_line.Verb.TheVariants as verb
 use Rattle.sbl_io.specs.Devices.{HasStopped, Tally}
 use Rattle.std.specs.Prelude.{◌==◌, IfErr, OnOk, if◌then◌else◌, take}
 use Rattle.std.specs.Io.KnownBytes.{Appends}

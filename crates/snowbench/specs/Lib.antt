@@ -8,6 +8,5 @@ pub mod ScriptFiles
 pub mod FileRuns
 pub mod WholeFilter
 pub mod WholeList
-pub mod CommandLine
 -- what the functions inside the crate promise each other: nothing in these need be believed
 pub mod inside

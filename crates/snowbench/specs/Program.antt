@@ -2,9 +2,9 @@
 use Rattle.std.specs.Prelude.{◌≡◌, ◌⊎◌, ◌+◌, ◌++◌, ◌==◌, ℕ, List, [], ◌∷◌, Option, None, Result, Ok}
 use Rattle.std.specs.Prelude.{Err, IfErr, codes, if◌then◌else◌, min, string_bytes, take}
 use Rattle.std.specs.Io.KnownBytes.{Appends, Keeps}
-use Rattle.snowbench.specs.declared.command_line.Verb.{Verb}
-use Rattle.snowbench.specs.declared.command_line.Verb.TheVariants.{Session, Stem, Filter, Check, Compare, Work}
-use Rattle.snowbench.specs.declared.command_line.Wanted.{Wanted}
+use Rattle.sbl_command_line.specs.declared.command_line.Verb.{Verb}
+use Rattle.sbl_command_line.specs.declared.command_line.Verb.TheVariants.{Session, Stem, Filter, Check, Compare, Work}
+use Rattle.sbl_command_line.specs.declared.command_line.Wanted.{Wanted}
 use Rattle.sbl_input.specs.declared.faults.LoadFault.{LoadFault}
 use Rattle.sbl_input.specs.declared.faults.LoadFault.TheVariants.{Input}
 use Rattle.sbl_io.specs.Devices.{HasStopped, IsUnused, Tally, max_count}

@@ -12,9 +12,9 @@ ghost use Rattle.snowbench.specs.StemmedRows.{IsStemmed};
 ghost use Rattle.snowbench.specs.WholeCheck.{ChecksLists, IsWholeCheck, ReadsExpected, ReadsWords};
 ghost use Rattle.snowbench.specs.WholeSession.{IsWholeSession};
 
-use crate::command_line::{Verb, Wanted};
 use sbl_batch::{CheckedLists, check_observed, filter};
 use sbl_bench::{Progress, WordKeys};
+use sbl_command_line::{Verb, Wanted};
 use sbl_input::{LoadFault, load_observed, load_rows, read_script};
 use sbl_io::{Lines, ServeFault, Sink, Source, write_all};
 use sbl_script::Script;

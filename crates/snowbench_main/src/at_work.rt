@@ -1,35 +1,51 @@
 //! Work on the files of a script and of words.
 
-use crate::failures::random_keys;
 use crate::places::WorkPlaces;
-use sbl_messages::{Failure, REFUSED};
+use sbl_messages::{FAILED, Failure, NO_KEYS, REFUSED};
 use sbl_work::{NoObserver, Observer, Paths, work};
 use snowbench::{Device, Face, Lines, Wanted};
+use std::alloc::{AllocError, Global};
 use std::hash::RandomState;
 use std::io::IsTerminal;
 
-/// Works on the files of the command line, and returns the exit status. Faults are shown with their places if the face is text, also by
-/// default at a terminal. The prompt is written if the face is text, and both input and output are a terminal.
-pub(crate) fn start_work(rt: &HostRuntime, mut wanted: Wanted) -> Result<u8, Failure> {
-    let Some(script) = wanted.options.script.take() else {
-        return Ok(REFUSED);
-    };
-    let paths = Paths {
-        script,
-        words: wanted.options.words.take(),
-        external: String::from_str(rt.alloc(), wanted.external.as_str())?,
-        from: wanted.options.from.take(),
-        stop: wanted.options.stop.take(),
-    };
-    let keys = random_keys(rt)?;
+/// Works on the files of the command line, and returns the exit status.
+pub(crate) fn start_work(rt: &HostRuntime, wanted: Wanted) -> Result<u8, Failure> {
     let face = wanted.options.face;
+    match paths_of(rt.alloc(), wanted)? {
+        Some(paths) => work_at(rt, &paths, face),
+        None => Ok(REFUSED),
+    }
+}
+
+/// Returns the files of a command line, if it has a script. Returns `AllocError` if an allocation fails.
+fn paths_of(alloc: Global, mut wanted: Wanted) -> Result<Option<Paths>, AllocError> {
+    let external = String::from_str(alloc, wanted.external.as_str())?;
+    let options = &mut wanted.options;
+    let Some(script) = options.script.take() else {
+        return Ok(None);
+    };
+    Ok(Some(Paths {
+        script,
+        words: options.words.take(),
+        external,
+        from: options.from.take(),
+        stop: options.stop.take(),
+    }))
+}
+
+/// Works on files, and returns the exit status. Faults are shown with their places if the face is text, also by default at a terminal. The
+/// prompt is written if the face is text, and both input and output are a terminal.
+fn work_at(rt: &HostRuntime, paths: &Paths, face: Option<Face>) -> Result<u8, Failure> {
+    let Ok(keys) = RandomState::new(rt) else {
+        return Err(Failure::Fixed(NO_KEYS, FAILED));
+    };
     let is_shown = rt.stdout().is_terminal();
     let prompts = is_shown && rt.stdin().is_terminal() && face != Some(Face::Rows);
     if face == Some(Face::Text) || (face.is_none() && is_shown) {
-        let mut places = WorkPlaces::new(rt, &paths);
-        work_over(rt, keys, &paths, prompts, &mut places)
+        let mut places = WorkPlaces::new(rt, paths);
+        work_over(rt, keys, paths, prompts, &mut places)
     } else {
-        work_over(rt, keys, &paths, prompts, &mut NoObserver {})
+        work_over(rt, keys, paths, prompts, &mut NoObserver {})
     }
 }
 

@@ -1,92 +1,8 @@
-//! What a session or work refuses: how often, and the places of faults, on standard error.
+//! The places of faults in what work refuses, on standard error.
 
-use crate::failures::print_if_any;
-use crate::progress_line::ProgressLine;
-use sbl_bench::{Bench, Progress};
-use sbl_messages::{FirstBytes, lines_before, refused_edit_text, refused_source_text, start_text};
+use sbl_bench::Bench;
+use sbl_messages::{refused_block_text, refused_script_text};
 use sbl_work::{Observer, Paths, RefusedSource};
-use snowbench::{RefusedEdit, Reply, Wanted, Watch};
-use std::cell::RefCell;
-
-/// Counts the replies of a session that refuse something. If places are shown, prints what is wrong with each block that is refused for its
-/// text, and shows how many words were run before the session.
-#[derive(Drop)]
-pub(crate) struct PlaceWatch<'a> {
-    rt: &'a HostRuntime,
-    external: &'a str,
-    /// The name of the text in which the commands are.
-    input: &'a str,
-    /// The first bytes of this text, if it begins with the script and the words.
-    kept: Option<&'a RefCell<FirstBytes>>,
-    /// The number of its lines before the commands.
-    lines_before: u64,
-    progress: ProgressLine<'a>,
-    shows_places: bool,
-    refusals: u64,
-}
-
-impl<'a> PlaceWatch<'a> {
-    /// Returns the watch before the session. Places in a file are always shown.
-    pub(crate) fn new(
-        rt: &'a HostRuntime,
-        wanted: &'a Wanted,
-        input: &'a str,
-        kept: Option<&'a RefCell<FirstBytes>>,
-    ) -> PlaceWatch<'a> {
-        PlaceWatch {
-            rt,
-            external: wanted.external.as_str(),
-            input,
-            kept,
-            lines_before: 0,
-            progress: ProgressLine::new(rt, wanted.verb),
-            shows_places: wanted.options.shows_places || kept.is_none(),
-            refusals: 0,
-        }
-    }
-
-    /// Returns how many replies refused something.
-    pub(crate) fn refusals(&self) -> u64 {
-        self.refusals
-    }
-}
-
-impl Watch for PlaceWatch<'_> {
-    fn begin(&mut self, bench: &Bench) {
-        if let Some(kept) = self.kept {
-            if let Ok(kept) = kept.try_borrow() {
-                self.lines_before = lines_before(kept.bytes(), bench);
-            }
-        }
-    }
-
-    fn see_reply(&mut self, reply: &Reply) {
-        if reply.is_refusal() {
-            self.refusals = self.refusals.saturating_add(1);
-        }
-    }
-
-    fn see_refused(&mut self, bench: &Bench, edit: &RefusedEdit, row: u64) {
-        if self.shows_places {
-            let (alloc, external, input) = (self.rt.alloc(), self.external, self.input);
-            let line = self.lines_before.saturating_add(row).saturating_add(1);
-            let text = refused_edit_text(alloc, bench, edit, external, input, line);
-            print_if_any(self.rt, text);
-        }
-    }
-}
-
-impl Progress for PlaceWatch<'_> {
-    fn see_words(&mut self, words: u64) {
-        if self.shows_places {
-            self.progress.see_words(words);
-        }
-    }
-
-    fn see_end(&mut self) {
-        self.progress.see_end();
-    }
-}
 
 /// Prints what is wrong with each text that work refuses.
 #[derive(Drop)]
@@ -100,15 +16,34 @@ impl<'a> WorkPlaces<'a> {
     pub(crate) fn new(rt: &'a HostRuntime, paths: &'a Paths) -> WorkPlaces<'a> {
         WorkPlaces { rt, paths }
     }
+
+    /// Prints what there is to say, if there is something.
+    fn print(&self, said: Option<String>) {
+        if let Some(said) = said {
+            let _ = eprintln!(self.rt; "{said}");
+        }
+    }
 }
 
 impl Observer for WorkPlaces<'_> {
     fn see_start(&mut self, text: &[u8]) {
-        print_if_any(self.rt, start_text(self.rt.alloc(), self.paths, text));
+        let paths = self.paths;
+        let path = paths.from.as_ref().unwrap_or(&paths.script);
+        let external = paths.external.as_str();
+        let said = refused_script_text(self.rt.alloc(), path.as_str(), text, external);
+        self.print(said);
     }
 
     fn see_refused(&mut self, bench: &Bench, refused: &RefusedSource) {
-        let text = refused_source_text(self.rt.alloc(), bench, self.paths, refused);
-        print_if_any(self.rt, text);
+        let (alloc, external) = (self.rt.alloc(), self.paths.external.as_str());
+        let said = match refused {
+            RefusedSource::File { path, text } => {
+                refused_script_text(alloc, path.as_str(), text, external)
+            }
+            RefusedSource::Block { line, text } => {
+                refused_block_text(alloc, bench, external, line.as_str(), text)
+            }
+        };
+        self.print(said);
     }
 }

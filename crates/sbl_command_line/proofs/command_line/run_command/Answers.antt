@@ -1,0 +1,13 @@
+use Rattle.std.proofs.Common.{◌∙◌, ap₂, ap, codes}
+use Rattle.std.proofs.lemmas.Result.{IfOk-weaker}
+use Rattle.clap.specs.Words.{with_rule, App, Rule, new_rule}
+use Rattle.sbl_command_line.specs.CommandLine.{verb_app}
+use Rattle.sbl_command_line.proofs.command_line.run_command.Goals as goal
+
+pub returns : goal.returns
+returns c =
+    let begun : Rule → App = λ r. with_rule (with_rule (verb_app (codes "run")) r) (new_rule (codes "WORDS")) in
+    let second = c.in_ok-words_command.ensures ∙ ap begun c.required_file-script.ensures.rule in
+    let third = c.in_ok-arg.ensures.shape c.file_arg.ensures.here ∙ ap₂ with_rule second c.file_arg.ensures.rule in
+    let fourth = c.in_ok-arg-2.ensures.shape c.flag_arg.ensures.here ∙ ap₂ with_rule third c.flag_arg.ensures.rule in
+    IfOk-weaker c.arg-3.result _ _ (λ r h. h.shape c.value_arg.ensures.here ∙ ap₂ with_rule fourth c.value_arg.ensures.rule) c.arg-3.ensures

@@ -1,0 +1,9 @@
+use Rattle.std.proofs.Common.{◌∙◌, ap₂}
+use Rattle.std.proofs.lemmas.Result.{IfOk-weaker}
+use Rattle.clap.specs.Words.{with_rule}
+use Rattle.sbl_command_line.proofs.command_line.session_command.Goals as goal
+
+pub returns : goal.returns
+returns c =
+    let first = c.in_ok-arg.ensures.shape c.flag_arg.ensures.here ∙ ap₂ with_rule c.in_ok-verb_command.ensures c.flag_arg.ensures.rule in
+    IfOk-weaker c.arg-2.result _ _ (λ r h. h.shape c.flag_arg-2.ensures.here ∙ ap₂ with_rule first c.flag_arg-2.ensures.rule) c.arg-2.ensures

@@ -1,0 +1,2 @@
+-- what the contracts of public calls rest on
+pub mod CommandLine
