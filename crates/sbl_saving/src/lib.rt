@@ -18,6 +18,3 @@ pub use read::{ReadFault, is_same_file, read_file};
 pub use replace::{ReplaceFault, replace_file};
 pub use save::save_file;
 pub use save_fault::SaveFault;
-
-#[cfg(test)]
-mod tests;

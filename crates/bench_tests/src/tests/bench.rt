@@ -1,11 +1,11 @@
 //! The words of a bench: refusals, and refused growths. tests/cases has the replies.
 
+use crate::tests::runs::outcome_text;
 use sbl_bench::EditFault::{
     Absent, AmongCount, BadLimit, BrokenOff, EmptyWord, Full, MeterFull, NoAmong, NoGrouping,
     NoRoutine, OutOfMemory, Present, WordTooLong,
 };
 use sbl_bench::{Bench, EditFault, Row, WordKeys};
-use sbl_machine::Outcome;
 use sbl_script::{Script, ScriptFault};
 use std::alloc::{AllocError, Global};
 use std::hash::RandomState;
@@ -23,59 +23,46 @@ pub(crate) fn words_in(alloc: Global, text: &str) -> Result<Vec<Vec<char>>, Allo
 }
 
 /// A bench over this script, with `¶` for a line feed or by its name, and these words.
-pub(crate) fn bench_of(alloc: Global, script: &str, words: &str) -> Result<Bench, Fail> {
+pub(crate) fn bench_of(alloc: Global, script: &str, words: &str) -> Result<Bench, EditFault> {
     let words = words_in(alloc, words)?;
     let text = if script == "PLURALS" { PLURALS } else { script };
     let text = with_line_feeds(alloc, text)?;
     // The script comes last: on no path is a script or a bench dropped, whose destructors would be proved here again.
     let script = Script::parse(alloc, text.as_str().as_bytes(), "stem")?;
-    Ok(Bench::open(alloc, script, words)?)
+    Bench::open(alloc, script, words)
 }
 
-/// A row as `WORD STEM`, or `WORD` and the fault.
-pub(crate) fn row_text(alloc: Global, row: &Row<'_>) -> Result<String, Fail> {
+/// Appends a row as `WORD STEM;`, or `WORD` and the fault.
+pub(crate) fn push_row(alloc: Global, text: &mut String, row: &Row<'_>) -> Result<(), AllocError> {
     let word = text_of(alloc, row.word)?;
-    match row.outcome {
-        Outcome::Stem(stem) => {
-            let stem = text_of(alloc, stem.as_slice())?;
-            Ok(format!(in alloc; "{word} {stem}")?)
-        }
-        Outcome::Refused(fault) => Ok(format!(in alloc; "{word} {fault}")?),
-    }
+    let outcome = outcome_text(alloc, row.outcome)?;
+    text.push_str(format!(in alloc; "{word} {outcome};")?.as_str())
 }
 
 /// The rows as `WORD STEM;`.
-pub(crate) fn rows_shown(alloc: Global, bench: &Bench) -> Result<String, Fail> {
+pub(crate) fn rows_shown(alloc: Global, bench: &Bench) -> Result<String, AllocError> {
     let mut text = String::new(alloc);
     let rows = bench.rows()?;
     for row in &rows {
-        text.push_str(row_text(alloc, row)?.as_str())?;
-        text.push(';')?;
+        push_row(alloc, &mut text, row)?;
     }
     Ok(text)
 }
 
-#[test]
-fn words_that_are_refused_change_nothing(rt: HostRuntime) -> Result<(), Fail> {
-    let mut bench = bench_of(rt.alloc(), PREFIXES, "undo")?;
-    assert_eq!(rt; bench.add(&[]), Err(EditFault::EmptyWord));
-    assert_eq!(rt; bench.add(&['a'; 256]), Err(EditFault::WordTooLong));
-    assert_eq!(rt; bench.add(&['u', 'n', 'd', 'o']), Err(EditFault::Present));
-    assert_eq!(rt; bench.len(), 1);
-    assert_eq!(rt; bench.runs(), 1);
-    assert_eq!(rt; bench.add(&['a'; 255]), Ok(()));
-    assert_eq!(rt; bench.runs(), 2);
-    bench.leak();
-    Ok(())
-}
+/// Cases as in edits.rt of words that are refused, which change nothing. A word of 255 letters is none of them.
+pub(crate) const REFUSED: &[&str] = &[
+    "externals ( stem ) define stem as ( [ among ( 'un' () 're' () ) ] delete )
+undo
+add |42 EmptyWord|undo do;||1
+add_a 256|43 WordTooLong|undo do;||1
+add undo|40 Present|undo do;||1
+add_a 255||?||2",
+];
 
 /// Returns the stem that `why` has, or the fault.
 fn why_of(alloc: Global, bench: &Bench, word: &[char]) -> Result<String, AllocError> {
     match bench.why(word) {
-        Ok(why) => match &why.outcome {
-            Outcome::Stem(stem) => text_of(alloc, stem.as_slice()),
-            Outcome::Refused(fault) => format!(in alloc; "{fault}"),
-        },
+        Ok(why) => outcome_text(alloc, &why.outcome),
         Err(fault) => format!(in alloc; "{fault}"),
     }
 }

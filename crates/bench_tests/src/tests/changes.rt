@@ -1,42 +1,39 @@
-//! Two lists of rows, and their changes.
+//! Two lists of rows, and their changes; the table of what is asked about rows.
 
-use crate::tests::families::families_of;
-use crate::tests::row_lists::{changes_text, rows_in, view};
+use crate::tests::families::{FAMILIES, families_of};
+use crate::tests::largest::{LARGEST, largest_of};
+use crate::tests::row_lists::{rows_in, shown_records, view};
 use sbl_rows::changes;
-use std::alloc::{AllocError, Global};
+use std::alloc::Global;
 use std::process::Abort;
 use std::test::Fail;
-use test_support::field;
+use test_support::{field, is_as_row};
 
 /// The changes between two lists as rows.
-fn changes_of(alloc: Global, before: &str, after: &str) -> Result<String, AllocError> {
+fn changes_of(alloc: Global, before: &str, after: &str) -> Result<String, Fail> {
     let (before, after) = (rows_in(alloc, before)?, rows_in(alloc, after)?);
     let (before, after) = (view(alloc, &before)?, view(alloc, &after)?);
-    let changes = changes(alloc, &before, &after)?;
-    changes_text(alloc, &changes)
+    shown_records(alloc, &changes(alloc, &before, &after)?)
 }
 
 /// What is asked about two texts.
 #[derive(Clone, Copy)]
-pub(crate) enum Asked {
+enum Asked {
     Changes,
     Families,
+    Largest,
 }
 
 /// Asserts what is shown for each row: what is tried, two texts, and what is wanted.
-pub(crate) fn are_shown(
-    rt: &impl Abort,
-    alloc: Global,
-    asked: Asked,
-    rows: &str,
-) -> Result<(), Fail> {
+fn are_shown(rt: &impl Abort, alloc: Global, asked: Asked, rows: &str) -> Result<(), Fail> {
     for row in rows.split('\n') {
         let (one, other) = (field(row, 1), field(row, 2));
         let shown = match asked {
             Asked::Changes => changes_of(alloc, one, other)?,
             Asked::Families => families_of(alloc, one, other)?,
+            Asked::Largest => largest_of(alloc, one, other)?,
         };
-        assert_eq!(rt; shown.as_str(), field(row, 3), "{row}");
+        is_as_row(rt, row, 3, shown.as_str());
     }
     Ok(())
 }
@@ -66,6 +63,8 @@ a prefix comes first|a=x b=x c=w d=w|a=ab b=a c=w d=v|changed,a,stem,x,stem,ab;c
 a class is in several rows|a=x b=x c=y|a=y b=z c=y|changed,a,stem,x,stem,y;changed,b,stem,x,stem,z;split,x,y,z;merged,y,x,y;";
 
 #[test]
-fn changes_between_two_lists(rt: HostRuntime) -> Result<(), Fail> {
-    are_shown(&rt, rt.alloc(), Asked::Changes, CHANGES)
+fn changes_families_and_the_largest_classes(rt: HostRuntime) -> Result<(), Fail> {
+    are_shown(&rt, rt.alloc(), Asked::Changes, CHANGES)?;
+    are_shown(&rt, rt.alloc(), Asked::Families, FAMILIES)?;
+    are_shown(&rt, rt.alloc(), Asked::Largest, LARGEST)
 }

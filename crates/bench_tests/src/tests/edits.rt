@@ -1,13 +1,15 @@
 //! Edits of a bench, with the rows, the changes and the count of runs after each. Sessions of edits are in tests/cases.
 
-use crate::tests::bench::{bench_of, row_text, rows_shown, words_in};
+use crate::tests::bench::{REFUSED, bench_of, push_row, rows_shown, words_in};
+use crate::tests::breaks::{BREAKS, break_edit};
 use crate::tests::groupings::GROUPINGS;
-use crate::tests::limits::LIMITS;
+use crate::tests::limits::{LIMITS, SET};
+use crate::tests::whole_scripts::{SCRIPTS, TOO_LONG, case_of};
 use sbl_bench::{Bench, EditFault, Row};
-use std::alloc::Global;
+use std::alloc::{AllocError, Global};
 use std::process::Abort;
 use std::test::Fail;
-use test_support::{field, fits, letters, number, with_line_feeds};
+use test_support::{field, is_as_row, letters, number, with_line_feeds};
 
 /// A case has the script, the words with commas between them, and edits one after another, each on a line: the edit, why it is refused
 /// (empty if it is accepted), the rows and the changes after it (`?`: not asked), and the count of runs (empty: not asked). A `¶` is
@@ -33,12 +35,25 @@ routine stem $x = 1 / 0||ab 65 Divide;|ab 64 Integer;ab 65 Divide;|2
 routine stem $x = 2 / 0||ab 65 Divide;||3",
 ];
 
+/// The letter `a` so many times.
+fn letters_a(alloc: Global, count: &str) -> Result<Vec<char>, AllocError> {
+    letters(
+        alloc,
+        "a".repeat(alloc, number(count, 0) as usize)?.as_str(),
+    )
+}
+
 /// Makes an edit of a bench.
-fn make_edit(alloc: Global, bench: &mut Bench, edit: &str) -> Result<Result<(), EditFault>, Fail> {
+fn make_edit(
+    alloc: Global,
+    bench: &mut Bench,
+    edit: &str,
+) -> Result<Result<(), EditFault>, AllocError> {
     let (verb, rest) = edit.split_once(' ').unwrap_or((edit, ""));
     let (name, text) = rest.split_once(' ').unwrap_or((rest, ""));
     Ok(match verb {
         "add" => bench.add(letters(alloc, rest)?.as_slice()),
+        "add_a" => bench.add(letters_a(alloc, rest)?.as_slice()),
         "remove" => bench.remove(letters(alloc, rest)?.as_slice()),
         "words" => bench.replace_words(words_in(alloc, rest)?.as_slice()),
         "routine" => bench.replace_routine(name, text),
@@ -52,8 +67,20 @@ fn make_edit(alloc: Global, bench: &mut Bench, edit: &str) -> Result<Result<(), 
     })
 }
 
+/// Makes an edit of a bench. Returns why it is refused, if it is.
+fn fault_of(alloc: Global, bench: &mut Bench, edit: &str) -> Result<String, Fail> {
+    let made = match edit.strip_prefix("break ") {
+        Some(edit) => break_edit(alloc, bench, edit)?,
+        None => make_edit(alloc, bench, edit)?,
+    };
+    match made {
+        Ok(()) => Ok(String::new(alloc)),
+        Err(fault) => Ok(format!(in alloc; "{fault}")?),
+    }
+}
+
 /// The changes of the last edit as `WORD STEM;WORD STEM;`, before and after.
-fn changes_shown(alloc: Global, bench: &Bench) -> Result<String, Fail> {
+fn changes_shown(alloc: Global, bench: &Bench) -> Result<String, AllocError> {
     let mut text = String::new(alloc);
     let changes = bench.changes()?;
     for change in &changes {
@@ -62,46 +89,29 @@ fn changes_shown(alloc: Global, bench: &Bench) -> Result<String, Fail> {
                 word: change.word,
                 outcome,
             };
-            text.push_str(row_text(alloc, &row)?.as_str())?;
-            text.push(';')?;
+            push_row(alloc, &mut text, &row)?;
         }
     }
     Ok(text)
 }
 
-/// Asserts why an edit is refused, and the rows and the changes after it, which a row has from this field on.
-pub(crate) fn gives(
-    rt: &impl Abort,
-    alloc: Global,
-    bench: &Bench,
-    made: Result<(), EditFault>,
-    row: &str,
-    from: usize,
-) -> Result<(), Fail> {
-    let answer = match made {
-        Ok(()) => String::new(alloc),
-        Err(fault) => format!(in alloc; "{fault}")?,
-    };
-    assert!(rt; answer.as_str() == field(row, from), "{row}: {answer}");
-    let shown = rows_shown(alloc, bench)?;
-    assert!(rt;
-        fits(row, from.saturating_add(1), shown.as_str()),
-        "{row}: {shown}"
-    );
-    let shown = changes_shown(alloc, bench)?;
-    assert!(rt;
-        fits(row, from.saturating_add(2), shown.as_str()),
-        "{row}: {shown}"
-    );
-    Ok(())
+/// The rows, the changes of the last edit, and the count of runs if it is asked.
+fn state_of(alloc: Global, bench: &Bench, asks_runs: bool) -> Result<String, AllocError> {
+    let rows = rows_shown(alloc, bench)?;
+    let changes = changes_shown(alloc, bench)?;
+    if !asks_runs {
+        return format!(in alloc; "{rows}|{changes}|");
+    }
+    let runs = bench.runs();
+    format!(in alloc; "{rows}|{changes}|{runs}")
 }
 
 /// Makes one edit, and asserts what it gives.
 fn edits_one(rt: &impl Abort, alloc: Global, bench: &mut Bench, row: &str) -> Result<(), Fail> {
-    let made = make_edit(alloc, bench, field(row, 0))?;
-    gives(rt, alloc, bench, made, row, 1)?;
-    let runs = number(row, 4);
-    assert!(rt; runs == 0 || bench.runs() == runs, "{row}");
+    let fault = fault_of(alloc, bench, field(row, 0))?;
+    assert!(rt; fault.as_str() == field(row, 1), "{row}: {fault}");
+    let state = state_of(alloc, bench, number(row, 4) != 0)?;
+    is_as_row(rt, row, 2, state.as_str());
     Ok(())
 }
 
@@ -115,7 +125,7 @@ fn edits(rt: &impl Abort, alloc: Global, bench: &mut Bench, rows: &str) -> Resul
 }
 
 /// Tries the edits of a case, and returns the limit at their end.
-pub(crate) fn tries(rt: &impl Abort, alloc: Global, case: &str) -> Result<u32, Fail> {
+fn tries(rt: &impl Abort, alloc: Global, case: &str) -> Result<u32, Fail> {
     let (script, rest) = case.split_once('\n').unwrap_or((case, ""));
     let (words, rows) = rest.split_once('\n').unwrap_or((rest, ""));
     let mut bench = bench_of(alloc, script, words)?;
@@ -128,10 +138,25 @@ pub(crate) fn tries(rt: &impl Abort, alloc: Global, case: &str) -> Result<u32, F
 
 #[test]
 fn edits_give_their_rows_changes_and_runs(rt: HostRuntime) -> Result<(), Fail> {
-    for cases in [CHANGES, GROUPINGS, LIMITS] {
+    for cases in [REFUSED, CHANGES, GROUPINGS, LIMITS, BREAKS] {
         for case in cases {
             tries(&rt, rt.alloc(), case)?;
         }
+    }
+    Ok(())
+}
+
+#[test]
+fn a_limit_runs_what_used_more_than_the_smaller_one(rt: HostRuntime) -> Result<(), Fail> {
+    let limit = tries(&rt, rt.alloc(), SET)?;
+    assert_eq!(rt; limit, 100_000);
+    Ok(())
+}
+
+#[test]
+fn a_whole_script_runs_what_met_the_items_that_differ(rt: HostRuntime) -> Result<(), Fail> {
+    for scripts in [SCRIPTS, TOO_LONG] {
+        tries(&rt, rt.alloc(), case_of(rt.alloc(), scripts)?.as_str())?;
     }
     Ok(())
 }

@@ -1,11 +1,8 @@
 //! The limit of steps, with the rows, the changes and the count of runs after each change of it. Cases as in edits.rt.
 
-use crate::tests::edits::tries;
-use std::test::Fail;
-
 /// `s` uses 16 steps, and `dog` 12. A run that was refused for its steps runs again at each change: `s` at the second step, which
 /// changes nothing, and at 11, too. At 100,000 no word runs.
-const SET: &str = "PLURALS
+pub(crate) const SET: &str = "PLURALS
 s,dog
 limit 15||s 60 Steps;dog dog;|s ;s 60 Steps;|3
 limit 15||s 60 Steps;dog dog;||4
@@ -26,10 +23,3 @@ limit 12||?|?|1
 add s||?|?|2
 routine tail true||dog dog;s s;|?|4",
 ];
-
-#[test]
-fn a_limit_runs_what_used_more_than_the_smaller_one(rt: HostRuntime) -> Result<(), Fail> {
-    let limit = tries(&rt, rt.alloc(), SET)?;
-    assert_eq!(rt; limit, 100_000);
-    Ok(())
-}

@@ -1,8 +1,10 @@
-//! Rows, and changes as text.
+//! Rows, lists of words, and the texts of reports.
 
 use sbl_machine::{Outcome, RunFault};
-use sbl_rows::{ChangeRow, FamilyRow, PairCounts, Row, StemClass};
+use sbl_reports::{Record, records_text};
+use sbl_rows::Row;
 use std::alloc::{AllocError, Global};
+use std::test::Fail;
 use test_support::letters;
 
 /// A row with its own characters.
@@ -23,17 +25,15 @@ fn fault_of(name: &str) -> RunFault {
 
 /// The row of a text: `cats=cat` is a word and its stem, `cats!Steps` a word whose run is refused.
 fn row_in(alloc: Global, text: &str) -> Result<OwnRow, AllocError> {
-    if let Some((word, name)) = text.split_once('!') {
-        return Ok(OwnRow {
-            word: letters(alloc, word)?,
-            outcome: Outcome::Refused(fault_of(name)),
-        });
-    }
+    let (text, name) = text.split_once('!').unwrap_or((text, ""));
     let (word, stem) = text.split_once('=').unwrap_or((text, ""));
-    Ok(OwnRow {
-        word: letters(alloc, word)?,
-        outcome: Outcome::Stem(letters(alloc, stem)?),
-    })
+    let word = letters(alloc, word)?;
+    let outcome = if name.is_empty() {
+        Outcome::Stem(letters(alloc, stem)?)
+    } else {
+        Outcome::Refused(fault_of(name))
+    };
+    Ok(OwnRow { word, outcome })
 }
 
 /// The rows of a text, which are separated by spaces.
@@ -96,123 +96,12 @@ pub(crate) fn view_lists(
     Ok(views)
 }
 
-/// Appends the characters.
-fn put_chars(text: &mut String, word: &[char]) -> Result<(), AllocError> {
-    for c in word {
-        text.push(*c)?;
-    }
-    Ok(())
-}
-
-/// Appends a comma and the characters.
-fn put_word(text: &mut String, word: &[char]) -> Result<(), AllocError> {
-    text.push(',')?;
-    put_chars(text, word)
-}
-
-/// Appends each text after a comma.
-fn put_words(text: &mut String, words: &[&[char]]) -> Result<(), AllocError> {
-    for word in words {
-        put_word(text, word)?;
-    }
-    Ok(())
-}
-
-/// Appends a name, and the texts, each after a comma.
-fn put_row(
-    text: &mut String,
-    name: &str,
-    first: &[char],
-    others: &[&[char]],
-) -> Result<(), AllocError> {
-    text.push_str(name)?;
-    put_word(text, first)?;
-    put_words(text, others)
-}
-
-/// Appends the outcome after a comma.
-fn put_outcome(text: &mut String, outcome: &Outcome) -> Result<(), AllocError> {
-    match outcome {
-        Outcome::Stem(stem) => put_row(text, ",stem", stem, &[]),
-        Outcome::Refused(fault) => {
-            text.push_str(",refused,")?;
-            text.push_str(fault.name())
-        }
-    }
-}
-
-/// Appends a change as a row.
-fn put_change(text: &mut String, change: &ChangeRow<'_>) -> Result<(), AllocError> {
-    match change {
-        ChangeRow::Added(word) => put_row(text, "added", word, &[]),
-        ChangeRow::Removed(word) => put_row(text, "removed", word, &[]),
-        ChangeRow::Changed {
-            word,
-            before,
-            after,
-        } => {
-            put_row(text, "changed", word, &[])?;
-            put_outcome(text, before)?;
-            put_outcome(text, after)
-        }
-        ChangeRow::Split(class) => put_row(text, "split", class.stem, &class.members),
-        ChangeRow::Merged(class) => put_row(text, "merged", class.stem, &class.members),
-        ChangeRow::Renamed { from, to } => put_row(text, "renamed", from, &[*to]),
-    }
-}
-
-/// The changes as rows, each with a semicolon.
-pub(crate) fn changes_text(alloc: Global, changes: &[ChangeRow<'_>]) -> Result<String, AllocError> {
+/// The records of a report, each with a semicolon in place of its line feed.
+pub(crate) fn shown_records<T: Record>(alloc: Global, records: &[T]) -> Result<String, Fail> {
+    let bytes = records_text(alloc, records)?;
     let mut text = String::new(alloc);
-    for change in changes {
-        put_change(&mut text, change)?;
-        text.push(';')?;
-    }
-    Ok(text)
-}
-
-/// The classes as rows, each with a semicolon.
-pub(crate) fn shown_classes(
-    alloc: Global,
-    classes: &[StemClass<'_>],
-) -> Result<String, AllocError> {
-    let mut text = String::new(alloc);
-    for class in classes {
-        put_chars(&mut text, class.stem)?;
-        put_words(&mut text, &class.members)?;
-        text.push(';')?;
-    }
-    Ok(text)
-}
-
-/// Appends a row about families.
-fn put_family_row(alloc: Global, text: &mut String, row: &FamilyRow<'_>) -> Result<(), AllocError> {
-    match row {
-        FamilyRow::Under { word, stems } => put_row(text, "under", word, stems),
-        FamilyRow::Over(class) => put_row(text, "over", class.stem, &class.members),
-        FamilyRow::Pairs(counts) => {
-            let PairCounts {
-                within,
-                apart,
-                across,
-                joined,
-            } = *counts;
-            let row = format!(in alloc; "pairs,{within},{apart},{across},{joined}")?;
-            text.push_str(row.as_str())
-        }
-        FamilyRow::Unknown(number) => {
-            let row = format!(in alloc; "unknown,{number}")?;
-            text.push_str(row.as_str())
-        }
-    }
-}
-
-/// The rows about families, each with a semicolon.
-pub(crate) fn shown_families(alloc: Global, rows: &[FamilyRow<'_>]) -> Result<String, AllocError> {
-    let mut text = String::new(alloc);
-    for row in rows {
-        put_family_row(alloc, &mut text, row)?;
-        text.push(';')?;
+    for letter in str::from_utf8(&bytes)?.chars() {
+        text.push(if letter == '\n' { ';' } else { letter })?;
     }
     Ok(text)
 }

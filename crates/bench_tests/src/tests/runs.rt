@@ -42,11 +42,19 @@ fn word_in(rt: &impl Abort, alloc: Global, row: &str) -> Result<Vec<char>, Alloc
     Ok(word)
 }
 
-/// A stem, or a fault after `!`.
+/// A stem, or a fault.
 pub(crate) fn outcome_text(alloc: Global, outcome: &Outcome) -> Result<String, AllocError> {
     match outcome {
         Outcome::Stem(stem) => text_of(alloc, stem.as_slice()),
-        Outcome::Refused(fault) => format!(in alloc; "!{fault}"),
+        Outcome::Refused(fault) => format!(in alloc; "{fault}"),
+    }
+}
+
+/// The sign before the text of an outcome: `!` if it is a fault.
+pub(crate) fn sign_of(outcome: &Outcome) -> &'static str {
+    match outcome {
+        Outcome::Stem(_) => "",
+        Outcome::Refused(_) => "!",
     }
 }
 
@@ -61,8 +69,9 @@ fn runs<S: AmongSearch>(
     requires { length word.now ≤ max_word_length }
 {
     let ran = machine.run(alloc, meter, word, limit)?;
-    let (outcome, used) = (outcome_text(alloc, &ran.outcome)?, ran.used);
-    let text = format!(in alloc; "{outcome}|{used};")?;
+    let (sign, used) = (sign_of(&ran.outcome), ran.used);
+    let outcome = outcome_text(alloc, &ran.outcome)?;
+    let text = format!(in alloc; "{sign}{outcome}|{used};")?;
     Ok((text, meter.count() == 1))
 }
 

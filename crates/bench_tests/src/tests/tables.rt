@@ -1,70 +1,65 @@
 //! Searches of the strings of an among, and what is printed of a run's faults.
 
+use crate::tests::bench::words_in;
 use sbl_ast::Mode;
 use sbl_machine::RunFault::{Cursor, Depth, Divide, Integer, Slice, Steps, TooLong};
 use sbl_machine::{AmongSearch, LinkedTable, PlainTable, RunStop};
 use std::alloc::{AllocError, Global};
 use std::process::Abort;
 use std::test::Fail;
-use test_support::{letters, print_values};
+use test_support::{field, is_as_row, letters, number, print_values};
 
-/// The letters of each of these strings.
-fn letters_of(alloc: Global, strings: &[&str]) -> Result<Vec<Vec<char>>, AllocError> {
-    let mut all = Vec::new(alloc);
-    for string in strings {
-        all.push(letters(alloc, string)?)?;
+/// The direction, the strings, the text, where in it the strings are looked for and the limit; the longest string that is there, and for
+/// each string the next shorter one. No string but a prefix, or backwards a suffix, is a shorter one.
+const TABLES: &str = "forwards|a,abc,ab|abd|0|3|Some(2)|None;Some(2);Some(0);
+backwards|s,es|boxes|5|0|Some(1)|None;Some(0);
+backwards|s,es|boxes|5|4|Some(0)|None;Some(0);
+forwards|||0|0|Some(0)|None;
+forwards|a,b||0|0|None|None;None;";
+
+/// The table of a row.
+fn table_of<S: AmongSearch>(alloc: Global, row: &str) -> Result<S, AllocError> {
+    let strings = words_in(alloc, field(row, 1))?;
+    let mode = match field(row, 0) {
+        "forwards" => Mode::Forward,
+        _ => Mode::Backward,
+    };
+    S::build(alloc, &strings, mode)
+}
+
+/// For each of these strings the next shorter one.
+fn shorter_ones<S: AmongSearch>(
+    alloc: Global,
+    table: &S,
+    strings: &str,
+) -> Result<String, AllocError> {
+    let mut text = String::new(alloc);
+    for (at, _) in strings.split(',').enumerate() {
+        let shorter = table.next_shorter(at);
+        text.push_str(format!(in alloc; "{shorter:?};")?.as_str())?;
     }
-    Ok(all)
+    Ok(text)
 }
 
-fn table_of<S: AmongSearch>(alloc: Global, mode: Mode, strings: &[&str]) -> Result<S, AllocError> {
-    let all = letters_of(alloc, strings)?;
-    S::build(alloc, &all, mode)
+/// What a search of a row finds.
+fn finds<S: AmongSearch>(alloc: Global, table: &S, row: &str) -> Result<String, AllocError> {
+    let text = letters(alloc, field(row, 2))?;
+    let at = (number(row, 3) as usize).min(text.len());
+    let bound = (number(row, 4) as usize).min(text.len());
+    let longest = table.longest(&text, at, bound);
+    let shorter = shorter_ones(alloc, table, field(row, 1))?;
+    format!(in alloc; "{longest:?}|{shorter}")
 }
 
-/// Builds a table for reading forwards, and asks it.
-fn finds_forwards<S: AmongSearch>(rt: &impl Abort, alloc: Global) -> Result<(), Fail> {
-    let text = ['a', 'b', 'd'];
-    let forwards: S = table_of(alloc, Mode::Forward, &["a", "abc", "ab"])?;
-    assert_eq!(rt; forwards.longest(&text, 0, 3), Some(2));
-    assert_eq!(rt; forwards.next_shorter(1), Some(2));
-    assert_eq!(rt; forwards.next_shorter(2), Some(0));
-    assert_eq!(rt; forwards.next_shorter(0), None);
-    Ok(())
-}
-
-/// Builds a table for reading backwards, and asks it.
-fn finds_backwards<S: AmongSearch>(rt: &impl Abort, alloc: Global) -> Result<(), Fail> {
-    let word = ['b', 'o', 'x', 'e', 's'];
-    let backwards: S = table_of(alloc, Mode::Backward, &["s", "es"])?;
-    assert_eq!(rt; backwards.longest(&word, 5, 0), Some(1));
-    assert_eq!(rt; backwards.longest(&word, 5, 4), Some(0));
-    assert_eq!(rt; backwards.next_shorter(1), Some(0));
-    Ok(())
-}
-
-/// Builds a table of the empty string, and asks it.
-fn finds_nothing_shorter<S: AmongSearch>(rt: &impl Abort, alloc: Global) -> Result<(), Fail> {
-    let empty: S = table_of(alloc, Mode::Forward, &[""])?;
-    assert_eq!(rt; empty.longest(&[], 0, 0), Some(0));
-    assert_eq!(rt; empty.next_shorter(0), None);
-    Ok(())
-}
-
-/// Builds a table of strings that do not begin one another, and asks it.
-fn keeps_strings_apart<S: AmongSearch>(rt: &impl Abort, alloc: Global) -> Result<(), Fail> {
-    // no string but a prefix is a shorter one
-    let apart: S = table_of(alloc, Mode::Forward, &["a", "b"])?;
-    assert_eq!(rt; apart.next_shorter(1), None);
-    Ok(())
-}
-
-/// Builds tables of one search, and asks them.
+/// Builds the table of each row, and asserts what it finds.
 fn ask_tables<S: AmongSearch>(rt: &impl Abort, alloc: Global) -> Result<(), Fail> {
-    finds_forwards::<S>(rt, alloc)?;
-    finds_backwards::<S>(rt, alloc)?;
-    finds_nothing_shorter::<S>(rt, alloc)?;
-    keeps_strings_apart::<S>(rt, alloc)
+    for row in TABLES.split('\n') {
+        let table: S = table_of(alloc, row)?;
+        let shown = finds(alloc, &table, row);
+        drop(table);
+        is_as_row(rt, row, 5, shown?.as_str());
+    }
+    Ok(())
 }
 
 #[test]

@@ -1,8 +1,6 @@
 //! Whole scripts as edits, with the rows and the count of runs after each.
 
-use crate::tests::edits::tries;
 use std::alloc::{AllocError, Global};
-use std::test::Fail;
 use test_support::field;
 
 const WORDS: &str = "xyb,ab,xb,q,ad";
@@ -26,7 +24,7 @@ fn replace_first(alloc: Global, text: &str, old: &str, new: &str) -> Result<Stri
 /// (empty: nothing changes); why it is refused, the rows, and the count of runs. The first two run nothing, the next four what met the
 /// items that differ (in a routine, then also in the among of `tail`, then also in a grouping; the first two are taken back). Then two
 /// groupings are exchanged and an integer is declared, which run all, and three are refused.
-const SCRIPTS: &str = "first||||xyb xb;ab a;xb b;q ;ad ad;|5
+pub(crate) const SCRIPTS: &str = "first||||xyb xb;ab a;xb b;q ;ad ad;|5
 laid out||||xyb xb;ab a;xb b;q ;ad ad;|5
 first|( [ u ] delete )|( u )||xyb xyb;ab a;xb b;q ;ad ad;|7
 before|'b' ()|'b' ( attach 'e' )||xyb xyb;ab ae;xb b;q ;ad ad;|8
@@ -39,9 +37,13 @@ externals ( other ) define other as next|||48 NoExternal|xyb xb;ab a;xb b;q q;ad
 |||48 NoExternal|xyb xb;ab a;xb b;q q;ad ad;|24
 first||||xyb xb;ab a;xb b;q ;ad ad;|29";
 
+/// A script that is too long changes nothing: the longest has 1,048,576 bytes.
+pub(crate) const TOO_LONG: &str = "too long|||48 ScriptTooLong|xyb xb;ab a;xb b;q ;ad ad;|5";
+
 /// Returns the script of a row, after this one.
 fn script_in(alloc: Global, before: &str, row: &str) -> Result<String, AllocError> {
     let text = match field(row, 0) {
+        "too long" => return " ".repeat(alloc, 1_048_577),
         "first" => FIRST,
         "laid out" => LAID_OUT,
         "before" => before,
@@ -60,7 +62,7 @@ fn line_of(alloc: Global, script: &str, row: &str) -> Result<String, AllocError>
 }
 
 /// Returns the case, as in edits.rt, of these scripts.
-fn case_of(alloc: Global, scripts: &str) -> Result<String, AllocError> {
+pub(crate) fn case_of(alloc: Global, scripts: &str) -> Result<String, AllocError> {
     let mut case = format!(in alloc; "{FIRST}\n{WORDS}")?;
     let mut script = String::new(alloc);
     for row in scripts.split('\n') {
@@ -68,21 +70,4 @@ fn case_of(alloc: Global, scripts: &str) -> Result<String, AllocError> {
         case.push_str(line_of(alloc, script.as_str(), row)?.as_str())?;
     }
     Ok(case)
-}
-
-#[test]
-fn a_whole_script_runs_what_met_the_items_that_differ(rt: HostRuntime) -> Result<(), Fail> {
-    let alloc = rt.alloc();
-    tries(&rt, alloc, case_of(alloc, SCRIPTS)?.as_str())?;
-    Ok(())
-}
-
-// The longest script has 1,048,576 bytes.
-#[test]
-fn a_script_that_is_too_long_changes_nothing(rt: HostRuntime) -> Result<(), Fail> {
-    let alloc = rt.alloc();
-    let mut text = " ".repeat(alloc, 1_048_577)?;
-    text.push_str("|||48 ScriptTooLong|xyb xb;ab a;xb b;q ;ad ad;|5")?;
-    tries(&rt, alloc, case_of(alloc, text.as_str())?.as_str())?;
-    Ok(())
 }

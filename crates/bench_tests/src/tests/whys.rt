@@ -3,7 +3,7 @@
 ghost use Rattle.std.specs.Prelude.{◌≤◌, length};
 ghost use Rattle.sbl_semantics.specs.Limit.{max_word_length};
 
-use crate::tests::runs::{Asked, answer, ask, machine_of, outcome_text};
+use crate::tests::runs::{Asked, answer, ask, machine_of, outcome_text, sign_of};
 use sbl_machine::{AmongSearch, Machine, Meter, Table};
 use sbl_script::Script;
 use std::alloc::Global;
@@ -23,11 +23,12 @@ pub(crate) fn does<S: AmongSearch>(
     let why = machine.why(alloc, word, limit)?;
     let ran = machine.run(alloc, meter, word, limit)?;
     let is_same = why.outcome == ran.outcome && why.used == ran.used;
+    let sign = sign_of(&ran.outcome);
     let outcome = outcome_text(alloc, &ran.outcome)?;
     let integers = print_values(alloc, &why.integers)?;
     let events = &why.events;
     Ok((
-        format!(in alloc; "{outcome}|{integers}|{events:?}")?,
+        format!(in alloc; "{sign}{outcome}|{integers}|{events:?}")?,
         is_same,
     ))
 }
