@@ -1,7 +1,6 @@
 -- Values by number that are missing unless they were set in the current round.
 use Rattle.std.specs.Prelude.{ℕ, zero, suc, ◌≤◌, List, [], ◌∷◌, nat_eq, if◌then◌else◌, Option, Some, None}
 use Rattle.std.specs.declared.alloc.Global.{Global}
-use Rattle.std.specs.Global.{Box}
 use Rattle.std.specs.declared.vec.Vec.{Vec}
 use Rattle.sbl_run_state.specs.declared.slots.Slot.{Slot}
 
@@ -29,8 +28,3 @@ value_or first (Some value) = value
 abbrev pub text_or_empty : Option (Vec ℕ Global) → List ℕ
 text_or_empty None = []
 text_or_empty (Some text) = text.items
-
--- the choices of a call; one without amongs has none
-abbrev pub choices_of : Option (Box (List (Option ℕ))) → List (Option ℕ)
-choices_of None = []
-choices_of (Some choices) = choices.value

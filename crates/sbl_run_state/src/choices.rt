@@ -1,7 +1,7 @@
 //! The choices of a call, which move by their address when a call begins or ends.
 
 ghost use Rattle.std.specs.Prelude.{◌≡◌, [], Some, None, replicate, IfOk, MatchResult, slice_set, slice_index_or};
-ghost use Rattle.sbl_run_state.specs.Slots.{choices_of};
+ghost use Rattle.sbl_run_state.specs.ChoiceLists.{choices_of};
 
 use crate::slots::Slots;
 use std::alloc::{AllocError, Global};
@@ -10,12 +10,25 @@ use std::marker::Model;
 /// For each among of a routine, the group of the string that its last search took. A routine without amongs has none.
 #[derive(Drop)]
 pub struct Choices {
-    slots: Option<Box<Slots<usize>>>,
+    slots: ChoiceSlots,
+}
+
+/// Where choices are kept. Most routines have one among or none, whose choice takes no memory.
+#[derive(Drop)]
+enum ChoiceSlots {
+    /// Those of no among.
+    Empty,
+    /// That of one among, still open.
+    Open,
+    /// That of one among: this group.
+    Group(usize),
+    /// Those of more amongs.
+    Many(Box<Slots<usize>>),
 }
 
 impl Model for Choices {
     ghost use Rattle.std.specs.Prelude.{List, Option, ℕ};
-    ghost use Rattle.sbl_run_state.specs.Slots.{choices_of};
+    ghost use Rattle.sbl_run_state.specs.ChoiceLists.{choices_of};
 
     ghost Value = { List (Option ℕ) };
 
@@ -28,7 +41,9 @@ impl Choices {
     pub fn none() -> Choices
         ensures { result ≡ [] }
     {
-        Choices { slots: None }
+        Choices {
+            slots: ChoiceSlots::Empty,
+        }
     }
 
     /// Returns this many choices, all still open, in the memory of ended ones if there is some. Returns `AllocError` if
@@ -44,18 +59,25 @@ impl Choices {
         if count == 0 {
             return Ok(Choices::none());
         }
+        if count == 1 {
+            return Ok(Choices {
+                slots: ChoiceSlots::Open,
+            });
+        }
         let mut slots = match spares.pop() {
             None => new_slots(alloc)?,
             Some(slots) => slots,
         };
         slots.reset(count);
-        Ok(Choices { slots: Some(slots) })
+        Ok(Choices {
+            slots: ChoiceSlots::Many(slots),
+        })
     }
 
     /// Ends these choices, and keeps their memory for others.
     #[inline(always)]
     pub fn end(self, spares: &mut Vec<Box<Slots<usize>>>) {
-        if let Some(slots) = self.slots {
+        if let ChoiceSlots::Many(slots) = self.slots {
             // If there is no room for it, it is freed.
             let _ = spares.push(slots);
         }
@@ -67,8 +89,10 @@ impl Choices {
         ensures { result ≡ slice_index_or self.now among None }
     {
         match &self.slots {
-            None => None,
-            Some(slots) => slots.get(among).copied(),
+            ChoiceSlots::Empty => None,
+            ChoiceSlots::Open => None,
+            ChoiceSlots::Group(group) => { if among == 0 { Some(*group) } else { None } }
+            ChoiceSlots::Many(slots) => slots.get(among).copied(),
         }
     }
 
@@ -78,8 +102,20 @@ impl Choices {
         ensures { IfOk result (λ _. self.new ≡ slice_set self.old among (Some group)) }
     {
         match &mut self.slots {
-            None => Ok(()),
-            Some(slots) => slots.set(among, group),
+            ChoiceSlots::Empty => Ok(()),
+            ChoiceSlots::Open => {
+                if among == 0 {
+                    self.slots = ChoiceSlots::Group(group);
+                }
+                Ok(())
+            }
+            ChoiceSlots::Group(chosen) => {
+                if among == 0 {
+                    *chosen = group;
+                }
+                Ok(())
+            }
+            ChoiceSlots::Many(slots) => slots.set(among, group),
         }
     }
 
@@ -89,8 +125,14 @@ impl Choices {
         ensures { self.new ≡ slice_set self.old among None }
     {
         match &mut self.slots {
-            None => {}
-            Some(slots) => slots.unset(among),
+            ChoiceSlots::Empty => {}
+            ChoiceSlots::Open => {}
+            ChoiceSlots::Group(_) => {
+                if among == 0 {
+                    self.slots = ChoiceSlots::Open;
+                }
+            }
+            ChoiceSlots::Many(slots) => slots.unset(among),
         }
     }
 }
