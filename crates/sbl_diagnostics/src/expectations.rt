@@ -70,6 +70,9 @@ fn push_follower(draft: &mut Draft, site: &Site<'_>, required: Symbol) -> bool {
         Some(Kind::Word(word)) if required == Symbol::Name && !begins_item(word) => {
             draft.fill(", and % is a reserved word.", &[site.spot.token]);
         }
+        Some(Kind::Literal) if last.kind == Kind::Sign(Sign::Equals) => {
+            draft.put(". A string variable is set by ->, as in [ next ] -> w.");
+        }
         _ => draft.put("."),
     }
     true

@@ -58,7 +58,7 @@ pub(crate) fn advice_on(script: &[Token<'_>], name: &str) -> Option<&'static str
 /// Returns whether a character is beyond ASCII, and no blank, dash or quotation mark, and not invisible.
 pub(crate) fn is_letter(character: char) -> bool {
     match character {
-        '\u{A0}' | '\u{2000}'..='\u{206F}' | '\u{2212}' => false,
+        '\u{A0}' | '\u{AB}' | '\u{B4}' | '\u{BB}' | '\u{2000}'..='\u{206F}' | '\u{2212}' => false,
         _ => character > '\u{7F}',
     }
 }
@@ -72,9 +72,15 @@ pub(crate) fn may_look_latin(character: char) -> bool {
 pub(crate) fn foreign_character(character: char) -> Option<&'static str> {
     match character {
         ',' | ';' => Some("Names and commands have only white space between them"),
-        '"' | '`' | '\u{2018}' | '\u{2019}' | '\u{201C}' | '\u{201D}' => {
-            Some("A literal is in straight single quotes: 'abc'")
-        }
+        '"'
+        | '`'
+        | '\u{AB}'
+        | '\u{B4}'
+        | '\u{BB}'
+        | '\u{2018}'..='\u{201F}'
+        | '\u{2032}'..='\u{2036}'
+        | '\u{2039}'
+        | '\u{203A}' => Some("A literal is in straight single quotes: 'abc'"),
         '#' | '%' => Some("A comment is from // to the end of the line, or from /* to */"),
         '{' | '}' => Some("Commands and names are in round parentheses"),
         '|' => Some("Between two commands write or"),
