@@ -3,7 +3,7 @@ use Rattle.std.specs.Prelude.{ℕ, Bool, List, ◌∷◌}
 use Rattle.sbl_ast.specs.Source.{Source}
 use Rattle.sbl_ast.specs.Tree.{Argument, Term, term}
 use Rattle.sbl_ast.specs.declared.tree.Additive.TheVariants.{Plus}
-use Rattle.sbl_run_laws.specs.Groupings.{IsOfTerms, groupings_of}
+use Rattle.sbl_machine.specs.Groupings.{IsOfTerms, groupings_of}
 use Rattle.sbl_semantics.specs.Items.{char_class_of, term_has, terms_have}
 
 -- whether the grouping n of a script has the character c

@@ -7,7 +7,7 @@ use Rattle.sbl_ast.specs.Tree.{Item}
 use Rattle.sbl_text.specs.declared.fault.ScriptFault.{ScriptFault}
 use Rattle.sbl_compiler.specs.Laws.{names_in}
 use Rattle.sbl_compiler.specs.NumberedNames.{number_of}
-use Rattle.sbl_run_laws.specs.NamesStand.{StandsFor}
+use Rattle.sbl_machine.specs.NamesStand.{StandsFor}
 use Rattle.sbl_resolver.specs.Checks.{WellDeclared, fault_at}
 use Rattle.sbl_resolver.specs.Occurrences.{Notice, Occurrence, occurrences_of}
 use Rattle.sbl_resolver.specs.declared.occurrences.Site.{Site}

@@ -4,7 +4,7 @@ use Rattle.std.specs.List.{flat_map}
 use Rattle.sbl_rows.specs.Setting.{Setting}
 use Rattle.sbl_ast.specs.Source.{Source}
 use Rattle.sbl_resolver.specs.Checks.{WellDeclared}
-use Rattle.sbl_run_laws.specs.BuiltFrom.{meets_one}
+use Rattle.sbl_machine.specs.BuiltFrom.{meets_one}
 use Rattle.sbl_semantics.specs.Differs.{differs}
 use Rattle.sbl_ast.specs.NamedParts.{Part'}
 use Rattle.sbl_uses.specs.Parts.{parts_of}

@@ -4,7 +4,7 @@ ghost use Rattle.std.specs.Prelude.{◌≡◌, ℕ, List, length};
 ghost use Rattle.std.specs.List.{list_any};
 ghost use Rattle.sbl_ast.specs.Source.{Source};
 ghost use Rattle.sbl_rows.specs.Setting.{Setting, under};
-ghost use Rattle.sbl_run_laws.specs.BuiltFrom.{is_affected_by};
+ghost use Rattle.sbl_machine.specs.BuiltFrom.{is_affected_by};
 ghost use Rattle.sbl_semantics.specs.Outcome.{events_of};
 ghost use Rattle.sbl_semantics.specs.TouchedItems.{touched_items};
 ghost use Rattle.sbl_ast.specs.NamedParts.{Part'};

@@ -1,16 +1,16 @@
-//! Laws of sbl_run_laws (specs/Frame.antt), written out.
+//! Laws of sbl_machine (specs/Frame.antt), written out.
 
 ghost use Rattle.std.specs.Prelude.{◌≡◌, ℕ, Bool, false, List};
 ghost use Rattle.std.specs.List.{list_any};
 ghost use Rattle.std.specs.List.Sorted.{IsStrictlySortedBy};
-ghost use Rattle.sbl_run_laws.specs.BuiltFrom.{IsClosed, is_affected_by, affected_by, meets, meets_one};
+ghost use Rattle.sbl_machine.specs.BuiltFrom.{IsClosed, is_affected_by, affected_by, meets, meets_one};
 ghost use Rattle.sbl_semantics.specs.TouchedItems.{item_cmp, same_item, touched_items, touches, names_of};
 ghost use Rattle.sbl_ast.specs.NamedParts.{Part'};
 ghost use Rattle.sbl_ast.specs.Source.{Source};
-ghost use Rattle.sbl_run_laws.specs.Frame.{AgreeOutside, RunsAlike, StaysAsItWas};
+ghost use Rattle.sbl_machine.specs.Frame.{AgreeOutside, RunsAlike, StaysAsItWas};
 ghost use Rattle.law_tests.specs.Scripts.{PassesChecks, TouchesNone};
 
-use sbl_run_laws::laws::{clear_stay, frame, touches_are_touched, unmet_by_one_stay, unmet_stay};
+use sbl_machine::laws::{clear_stay, frame, touches_are_touched, unmet_by_one_stay, unmet_stay};
 
 /// Needs the whole of the law `touches_are_touched`.
 pub fn needs_touches_are_touched()

@@ -1,4 +1,4 @@
-//! Laws of sbl_run_laws (specs/NamesStand.antt), written out.
+//! Laws of sbl_machine (specs/NamesStand.antt), written out.
 
 ghost use Rattle.std.specs.Prelude.{ℕ, List};
 ghost use Rattle.sbl_resolver.specs.Occurrences.{Occurrence, uses};
@@ -7,7 +7,7 @@ ghost use Rattle.sbl_resolver.specs.declared.occurrences.Site.{Site};
 ghost use Rattle.sbl_resolver.specs.declared.occurrences.Use.{Use};
 ghost use Rattle.law_tests.specs.Scripts.{ComesTo, NamesSomething, PassesChecks};
 
-use sbl_run_laws::laws::names_stand;
+use sbl_machine::laws::names_stand;
 
 /// Needs the whole of the law `names_stand`.
 pub fn needs_names_stand()

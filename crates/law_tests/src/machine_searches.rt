@@ -1,14 +1,14 @@
-//! Laws of sbl_run_laws (specs/Searches.antt), written out.
+//! Laws of sbl_machine (specs/Searches.antt), written out.
 
 ghost use Rattle.std.specs.Prelude.{◌↔◌, ℕ, List};
 ghost use Rattle.std.specs.List.{AllByRecursion};
 ghost use Rattle.sbl_semantics.specs.Fitting.{fitting};
 ghost use Rattle.sbl_program.specs.Laws.{AllDiffer, Matches, StandsIn};
 ghost use Rattle.sbl_ast.specs.Source.{Source};
-ghost use Rattle.sbl_run_laws.specs.Searches.{amongs_of, strings_read};
+ghost use Rattle.sbl_machine.specs.Searches.{amongs_of, strings_read};
 ghost use Rattle.law_tests.specs.Scripts.{PassesChecks};
 
-use sbl_run_laws::laws::searches_are_exact;
+use sbl_machine::laws::searches_are_exact;
 
 /// Needs the whole of the law `searches_are_exact`.
 pub fn needs_searches_are_exact()

@@ -1,12 +1,12 @@
-//! Laws of sbl_run_laws (specs/Sound.antt), written out.
+//! Laws of sbl_machine (specs/Sound.antt), written out.
 
 ghost use Rattle.std.specs.Prelude.{◌≡◌, ℕ, List};
 ghost use Rattle.sbl_semantics.specs.Meaning.{ending};
 ghost use Rattle.sbl_program.specs.Start.{ending_of};
-ghost use Rattle.sbl_run_laws.specs.NumberedScript.{numbered_script};
+ghost use Rattle.sbl_machine.specs.NumberedScript.{numbered_script};
 ghost use Rattle.sbl_ast.specs.Source.{Source};
 
-use sbl_run_laws::laws::run_is_sound;
+use sbl_machine::laws::run_is_sound;
 
 /// Needs the whole of the law `run_is_sound`.
 pub fn needs_run_is_sound()

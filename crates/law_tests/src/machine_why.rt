@@ -1,13 +1,13 @@
-//! Laws of sbl_run_laws (specs/Why.antt), written out.
+//! Laws of sbl_machine (specs/Why.antt), written out.
 
 ghost use Rattle.std.specs.Prelude.{◌≡◌, ℕ, List, []};
 ghost use Rattle.std.specs.List.{filter};
 ghost use Rattle.sbl_semantics.specs.Meaning.{ending_with_events};
 ghost use Rattle.sbl_semantics.specs.Outcome.{Stem, integers_at, integers_of, outcome_at, run_of, touched_at, touches_of, used_at, used_of, events_of};
 ghost use Rattle.sbl_ast.specs.Source.{Source};
-ghost use Rattle.sbl_run_laws.specs.Why.{text_after, touches_after, is_no_test};
+ghost use Rattle.sbl_machine.specs.Why.{text_after, touches_after, is_no_test};
 
-use sbl_run_laws::laws::{events_change_nothing, events_touch, puts_give_the_stem};
+use sbl_machine::laws::{events_change_nothing, events_touch, puts_give_the_stem};
 
 /// Needs the whole of the law `events_change_nothing`.
 pub fn needs_events_change_nothing()

@@ -9,12 +9,11 @@ use Rattle.sbl_resolver.specs.Checks.{WellDeclared}
 use Rattle.sbl_ast.specs.Source.{Source}
 use Rattle.sbl_script.specs.Reading.{IsScriptOf}
 use Rattle.sbl_semantics.specs.declared.touch.Touch.{Touch}
-use Rattle.sbl_run_laws.specs.BuiltFrom.{affected_by, meets_one}
+use Rattle.sbl_machine.specs.BuiltFrom.{affected_by, meets_one}
 use Rattle.sbl_semantics.specs.Differs.{differs}
-use Rattle.sbl_run_laws.specs.EnoughSteps.{UsedStepsSuffice, UsedStepsTouch}
+use Rattle.sbl_machine.specs.EnoughSteps.{UsedStepsSuffice, UsedStepsTouch}
 use Rattle.sbl_machine.specs.DifferLaws.{DifferingStay, OneMeets}
-use Rattle.sbl_run_laws.specs.Frame.{StaysAsItWas}
-use Rattle.sbl_machine.specs.EditLaws.{UntouchedStay}
+use Rattle.sbl_machine.specs.Frame.{StaysAsItWas, UntouchedStay}
 use Rattle.sbl_machine.specs.Marks.{AreMarksOf, EditedAreThere, has_item}
 use Rattle.sbl_semantics.specs.Outcome.{touches_of, used_of}
 use Rattle.sbl_semantics.specs.TouchedItems.{item_of_touch, names_of}

@@ -3,7 +3,7 @@ use Rattle.std.proofs.Common.{◌≡◌, ◌∙◌, ◌++◌, ◌∷◌, [], Lis
 use Rattle.std.specs.List.{filter, list_all}
 use Rattle.sbl_rows.specs.Rows.{Row}
 use Rattle.sbl_rows.specs.Setting.{Setting}
-use Rattle.sbl_run_laws.specs.BuiltFrom.{meets}
+use Rattle.sbl_machine.specs.BuiltFrom.{meets}
 use Rattle.sbl_machine.specs.DifferLaws.{OneMeets}
 use Rattle.sbl_machine.specs.Marks.{has_item}
 use Rattle.sbl_semantics.specs.TouchedItems.{Names'}

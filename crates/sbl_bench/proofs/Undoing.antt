@@ -4,7 +4,7 @@ use Rattle.std.specs.List.{filter, list_any}
 use Rattle.std.proofs.Math.Path.{fun_ext}
 use Rattle.std.proofs.lemmas.Bool.{true≢false}
 use Rattle.sbl_ast.specs.Source.{Source}
-use Rattle.sbl_run_laws.specs.BuiltFrom.{meets_one}
+use Rattle.sbl_machine.specs.BuiltFrom.{meets_one}
 use Rattle.sbl_semantics.specs.Differs.{differs}
 use Rattle.sbl_machine.specs.DifferLaws.{AlikeDifferNowhere}
 use Rattle.sbl_semantics.specs.Outcome.{touches_of}

@@ -14,9 +14,10 @@ use crate::change::rerun;
 use crate::fault::EditFault;
 use crate::traces::{has_word, put_last};
 use sbl_last_runs::{follow, follow_new, follow_old, make_changes, words_are_unique};
-use sbl_machine::laws::{differing_stay, edits_agree, one_item_alone, untouched_stay};
+use sbl_machine::laws::{
+    differing_stay, edits_agree, one_item_alone, untouched_stay, used_steps_suffice,
+};
 use sbl_machine::{Item, Machine};
-use sbl_run_laws::laws::used_steps_suffice;
 use sbl_run_state::MAX_WORD_LENGTH;
 use sbl_script::laws::is_well_declared;
 use sbl_script::{Part, Script};

@@ -12,10 +12,10 @@ use Rattle.std.proofs.lemmas.Slice.Eq.{bytes_eq-Decides}
 use Rattle.sbl_ast.specs.Source.{Source}
 use Rattle.sbl_bench.specs.Traces.{rows_meeting}
 use Rattle.sbl_bench.specs.Vocabulary.{is_word}
-use Rattle.sbl_run_laws.specs.BuiltFrom.{affected_by, is_affected_by, meets, meets_one}
+use Rattle.sbl_machine.specs.BuiltFrom.{affected_by, is_affected_by, meets, meets_one}
 use Rattle.sbl_machine.specs.DifferLaws.{DifferingAgree}
-use Rattle.sbl_run_laws.proofs.FrameLaw.{agree_names}
-use Rattle.sbl_run_laws.proofs.TouchedOrder.{any-mapped}
+use Rattle.sbl_machine.proofs.FrameLaw.{agree_names}
+use Rattle.sbl_machine.proofs.TouchedOrder.{any-mapped}
 use Rattle.sbl_resolver.specs.Checks.{WellDeclared}
 use Rattle.sbl_rows.specs.Rows.{Row, row_of, rows_of, view_row}
 use Rattle.sbl_rows.specs.Setting.{Setting, under}

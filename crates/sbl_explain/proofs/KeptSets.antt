@@ -11,7 +11,7 @@ use Rattle.std.specs.declared.cmp.Ordering.{Ordering}
 use Rattle.std.specs.declared.cmp.Ordering.TheVariants.{Less, Equal, Greater}
 use Rattle.std.proofs.lemmas.Map.Lookups.{exact_bytes}
 use Rattle.std.proofs.lemmas.Map.Text.{is_eq-slice_cmp}
-use Rattle.sbl_run_laws.proofs.TouchedOrder.{or_again, or_swap}
+use Rattle.sbl_machine.proofs.TouchedOrder.{or_again, or_swap}
 use Rattle.sbl_uses.specs.UnusedViews.{texts_of}
 
 abbrev Word : Type 0

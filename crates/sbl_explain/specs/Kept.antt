@@ -11,7 +11,7 @@ use Rattle.sbl_rows.specs.Setting.{Setting}
 use Rattle.sbl_rows.specs.declared.row.Row as declared
 use Rattle.sbl_bench.specs.KeptRuns.{KeptRuns, setting_of}
 use Rattle.sbl_bench.specs.Vocabulary.{is_word}
-use Rattle.sbl_run_laws.specs.BuiltFrom.{meets_one}
+use Rattle.sbl_machine.specs.BuiltFrom.{meets_one}
 use Rattle.sbl_machine.specs.Marks.{has_item}
 use Rattle.sbl_semantics.specs.TouchedItems.{item_of, names_of}
 use Rattle.sbl_ast.specs.NamedParts.{Part', Among}

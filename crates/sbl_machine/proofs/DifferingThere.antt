@@ -24,7 +24,7 @@ use Rattle.sbl_machine.specs.Marks.{has_item}
 use Rattle.sbl_semantics.specs.Same.{same_argument, same_quoted, same_term}
 use Rattle.sbl_semantics.specs.TouchedItems.{Names', names_of}
 use Rattle.sbl_ast.specs.NamedParts.{Part', Among, Grouping}
-use Rattle.sbl_run_laws.proofs.DifferingCommands.{halves, if_so, none_listed}
+use Rattle.sbl_machine.proofs.DifferingCommands.{halves, if_so, none_listed}
 use Rattle.sbl_machine.proofs.EditsAgree.{first_name, grouping_more, routine_more}
 use Rattle.sbl_semantics.proofs.ByParts.{by_parts}
 use Rattle.sbl_semantics.proofs.SameSelf.{also, name_self}

@@ -10,18 +10,18 @@ use Rattle.sbl_resolver.specs.Laws.{WellDeclaredPasses}
 use Rattle.sbl_ast.specs.Source.{Source}
 use Rattle.sbl_semantics.specs.Differs.{differs}
 use Rattle.sbl_semantics.specs.DiffersByParts.{join, differ, differ_others, items_by, differ_plain, differ_plains, differ_item, differ_items}
-use Rattle.sbl_run_laws.specs.BuiltFrom.{affected_by}
+use Rattle.sbl_machine.specs.BuiltFrom.{affected_by}
 use Rattle.sbl_machine.specs.DifferLaws.{DifferingAgree, DifferingStay}
-use Rattle.sbl_run_laws.specs.Frame.{AgreeOutside}
-use Rattle.sbl_run_laws.specs.Holes.{holed_plain, holed_item}
+use Rattle.sbl_machine.specs.Frame.{AgreeOutside}
+use Rattle.sbl_machine.specs.Holes.{holed_plain, holed_item}
 use Rattle.sbl_semantics.specs.Same.{same_argument, same_term}
 use Rattle.sbl_ast.specs.NamedParts.{Part', Routine, Among, Grouping}
 use Rattle.sbl_parser.proofs.OneTree.{trees_are_one}
 use Rattle.sbl_semantics.proofs.ByParts.{by_parts}
-use Rattle.sbl_run_laws.proofs.ClearStay.{unmet_by_one_stay}
-use Rattle.sbl_run_laws.proofs.Several.{all_affected, several_closed}
+use Rattle.sbl_machine.proofs.EditsAgree.{unmet_by_one_stay}
+use Rattle.sbl_machine.proofs.Several.{all_affected, several_closed}
 use Rattle.sbl_semantics.proofs.SameParts.{both, name_is, kind_is, quoted_is, argument_is, names_are, base_is, terms_are}
-use Rattle.sbl_run_laws.proofs.DifferingCommands.{all_parts, halves, if_so, whole, sound, sound_others}
+use Rattle.sbl_machine.proofs.DifferingCommands.{all_parts, halves, if_so, whole, sound, sound_others}
 
 -- ---- items
 

@@ -23,18 +23,20 @@ use Rattle.sbl_script.specs.Homes.{Home, first_in, first_passing, home_in, home_
 use Rattle.sbl_script.proofs.Agreement.{edited_in}
 use Rattle.sbl_script.proofs.Found.{grouping_found, routine_found, some_plain}
 use Rattle.sbl_ast.specs.Source.{Source}
-use Rattle.sbl_run_laws.specs.BuiltFrom.{is_affected_by, built_from}
-use Rattle.sbl_run_laws.specs.Frame.{AgreeOutside}
-use Rattle.sbl_machine.specs.EditLaws.{EditsAgree, NamesStay, UntouchedStay}
-use Rattle.sbl_run_laws.specs.Holes.{with_holes, nothing, others_with_holes, holed_plain, holed_item}
-use Rattle.sbl_semantics.specs.TouchedItems.{names_of, same_item}
+use Rattle.sbl_machine.specs.BuiltFrom.{is_affected_by, affected_by, built_from, meets, meets_one}
+use Rattle.sbl_machine.specs.Frame.{AgreeOutside, AgreeingNamesStay, ClearStay, EditsAgree, NamesStay, UnmetByOneStay, UnmetStay, UntouchedStay}
+use Rattle.sbl_machine.specs.Holes.{with_holes, nothing, others_with_holes, holed_plain, holed_item}
+use Rattle.sbl_semantics.specs.Meaning.{ending}
+use Rattle.sbl_semantics.specs.Outcome.{touched_at, touches_of}
+use Rattle.sbl_semantics.specs.TouchedItems.{item_of_touch, names_of, same_item}
 use Rattle.sbl_ast.specs.NamedParts.{Part', Routine, Among, Grouping}
 use Rattle.sbl_machine.specs.Marks.{EditedAreThere, has_item}
-use Rattle.sbl_run_laws.proofs.BuiltFrom.{built_more}
-use Rattle.sbl_run_laws.proofs.NamesStand.{flip}
-use Rattle.sbl_run_laws.proofs.ClearStay.{unmet_stay}
-use Rattle.sbl_run_laws.proofs.FrameLaw.{agree_names}
-use Rattle.sbl_run_laws.proofs.HoledPuts.{body_put}
+use Rattle.sbl_machine.proofs.BuiltFrom.{affected_closed, built_more}
+use Rattle.sbl_machine.proofs.NamesStand.{flip}
+use Rattle.sbl_machine.proofs.FrameLaw.{agree_names, alike_by, clear_by_names, frame_on}
+use Rattle.sbl_machine.proofs.HoledPuts.{body_put}
+use Rattle.sbl_machine.proofs.Several.{several_closed}
+use Rattle.sbl_machine.proofs.TouchedOrder.{any-mapped}
 
 same_bytes : (n : List ℕ) → bytes_eq n n ≡ true
 same_bytes n = (bytes_eq-Decides n n).1 refl
@@ -243,6 +245,25 @@ edited_are_there s t e text edited =
 
 pub names_stay : NamesStay
 names_stay s t e text edited = agree_names (is_affected_by s e) s t (edits_agree s t e text edited)
+
+pub agreeing_names_stay : AgreeingNamesStay
+agreeing_names_stay picked s t agree = agree_names picked s t agree
+
+pub clear_stay : ClearStay
+unfolding touches_of
+clear_stay picked s t closed agree word limit clear =
+    let names = names_of s in
+    let run = ending s word limit in
+    let same = frame_on picked s t closed agree word limit (sym (clear_by_names picked names run) ∙ sym (any-mapped (item_of_touch names) picked (touched_at run)) ∙ clear) in
+    record { alike = alike_by s t word limit (agree_names picked s t agree) same; touches = ap touched_at same }
+
+pub unmet_stay : WellDeclaredPasses → UnmetStay
+unfolding meets
+unmet_stay passes x s t well agree word limit clear = clear_stay (is_affected_by s x) s t (affected_closed passes s well x) agree word limit clear
+
+pub unmet_by_one_stay : WellDeclaredPasses → UnmetByOneStay
+unfolding meets_one
+unmet_by_one_stay passes xs s t well agree word limit clear = clear_stay (affected_by s xs) s t (several_closed passes s well xs) agree word limit clear
 
 pub untouched_stay : WellDeclaredPasses → UntouchedStay
 untouched_stay passes s t e text well edited word limit clear = unmet_stay passes e s t well (edits_agree s t e text edited) word limit clear

@@ -16,16 +16,16 @@ use Rattle.sbl_semantics.specs.declared.touch.Touch.TheVariants.{Entered, Search
 use Rattle.sbl_semantics.specs.Touches.{same_touch, with_touch}
 use Rattle.sbl_ast.specs.Source.{Source}
 use Rattle.sbl_script.specs.SpelledScript.{AreSpelled}
-use Rattle.sbl_run_laws.specs.BuiltFrom.{is_affected_by, affected_by}
-use Rattle.sbl_run_laws.specs.inside.BuiltFromParts.{built_after}
+use Rattle.sbl_machine.specs.BuiltFrom.{is_affected_by, affected_by}
+use Rattle.sbl_machine.specs.inside.BuiltFromParts.{built_after}
 use Rattle.sbl_machine.specs.Marking.{amongs_after, amongs_in, groupings_after, with_names, marks_of, routines_after, with_searches, searches}
 use Rattle.sbl_machine.specs.Marks.{AreMarksOf, has_item}
 use Rattle.sbl_semantics.specs.TouchedItems.{item_of_touch, names_of}
 use Rattle.sbl_ast.specs.NamedParts.{Part', Routine, Among, Grouping}
-use Rattle.sbl_run_laws.proofs.BuiltFrom.{built_back}
-use Rattle.sbl_run_laws.proofs.Several.{built_from_several, or_false}
+use Rattle.sbl_machine.proofs.BuiltFrom.{built_back}
+use Rattle.sbl_machine.proofs.Several.{built_from_several, or_false}
 use Rattle.sbl_machine.proofs.NotEmpty.{groupings_named, routines_named}
-use Rattle.sbl_run_laws.proofs.Touching.{both_true, has_chosen, not_then}
+use Rattle.sbl_machine.proofs.Touching.{both_true, has_chosen, not_then}
 
 -- ---- one touch more
 

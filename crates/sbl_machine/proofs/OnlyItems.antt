@@ -10,7 +10,7 @@ use Rattle.sbl_ast.specs.Source.{Source}
 use Rattle.sbl_parser.proofs.OneTree.{trees_are_one}
 use Rattle.sbl_machine.specs.DifferLaws.{AlikeDifferNowhere, MoreDiffers, OnlyItemsDiffer}
 use Rattle.sbl_semantics.specs.DiffersByParts.{join, differ_plain, differ_plains, differ_item, differ_items}
-use Rattle.sbl_run_laws.specs.Holes.{holed_plain, holed_item}
+use Rattle.sbl_machine.specs.Holes.{holed_plain, holed_item}
 use Rattle.sbl_ast.specs.NamedParts.{Part'}
 use Rattle.sbl_machine.proofs.DiffersAgree.{agree_outside}
 use Rattle.sbl_semantics.proofs.ByParts.{by_parts}

@@ -2,9 +2,9 @@
 use Rattle.std.specs.Prelude.{◌≡◌, ℕ, true, false, List, [], ◌∷◌, Some, None}
 use Rattle.std.specs.List.{list_all}
 use Rattle.sbl_resolver.specs.Checks.{WellDeclared}
-use Rattle.sbl_run_laws.specs.BuiltFrom.{IsClosed, is_affected_by, affected_by, meets, meets_one}
+use Rattle.sbl_machine.specs.BuiltFrom.{IsClosed, is_affected_by, affected_by, meets, meets_one}
 use Rattle.sbl_semantics.specs.Differs.{differs}
-use Rattle.sbl_run_laws.specs.Frame.{AgreeOutside, StaysAsItWas}
+use Rattle.sbl_machine.specs.Frame.{AgreeOutside, StaysAsItWas}
 use Rattle.sbl_machine.specs.Marks.{has_item}
 use Rattle.sbl_semantics.specs.TouchedItems.{names_of}
 use Rattle.sbl_ast.specs.NamedParts.{Part'}

@@ -6,7 +6,7 @@ use Rattle.sbl_semantics.specs.TouchedItems.{names_of}
 use Rattle.sbl_program.specs.AmongStrings.{Listing}
 use Rattle.sbl_program.specs.Listing.{listed_by}
 use Rattle.sbl_program.specs.declared.linked.LinkedTable.{LinkedTable}
-use Rattle.sbl_run_laws.specs.NumberedScript.{numbered_script}
+use Rattle.sbl_machine.specs.NumberedScript.{numbered_script}
 use Rattle.sbl_program.specs.Program.{Program}
 use Rattle.sbl_program.specs.ProgramOf.{program_of}
 use Rattle.sbl_program.specs.LinkedStrings.{entries_of, mode_of}

@@ -8,7 +8,7 @@ use Rattle.sbl_semantics.specs.Touches.{with_touch}
 use Rattle.sbl_machine.specs.AmongList.{with_number}
 use Rattle.sbl_machine.specs.declared.marks.ItemKind.{ItemKind}
 use Rattle.sbl_machine.specs.declared.marks.ItemKind.TheVariants as kinds
-use Rattle.sbl_run_laws.specs.inside.BuiltFromParts.{built_after}
+use Rattle.sbl_machine.specs.inside.BuiltFromParts.{built_after}
 use Rattle.sbl_semantics.specs.TouchedItems.{Names'}
 use Rattle.sbl_ast.specs.NamedParts.{Part', Routine, Among, Grouping}
 

@@ -6,7 +6,7 @@ use Rattle.sbl_semantics.specs.declared.touch.Touch.{Touch}
 use Rattle.sbl_semantics.specs.Touches.{same_touch}
 use Rattle.sbl_script.specs.Edits.{IsEdited}
 use Rattle.sbl_ast.specs.Source.{Source}
-use Rattle.sbl_run_laws.specs.BuiltFrom.{affected_by}
+use Rattle.sbl_machine.specs.BuiltFrom.{affected_by}
 use Rattle.sbl_semantics.specs.TouchedItems.{Names', item_of_touch, names_of}
 use Rattle.sbl_ast.specs.NamedParts.{Part', Routine, Among, Grouping}
 

@@ -5,8 +5,8 @@ ghost use Rattle.std.specs.Prelude.{◌≡◌, map, OnOk, IfOk};
 ghost use Rattle.sbl_semantics.specs.Items.{is_member};
 ghost use Rattle.sbl_ast.specs.Order.{in_order};
 ghost use Rattle.sbl_ast.specs.View.{view_argument, view_items, view_plain, view_term};
-ghost use Rattle.sbl_run_laws.specs.BuiltFrom as spec;
-ghost use Rattle.sbl_run_laws.specs.inside.BuiltFromParts as parts;
+ghost use Rattle.sbl_machine.specs.BuiltFrom as spec;
+ghost use Rattle.sbl_machine.specs.inside.BuiltFromParts as parts;
 
 use sbl_ast::{Argument, Plain, ScriptItem, Term, items_in_order};
 use sbl_compiler::NameList;

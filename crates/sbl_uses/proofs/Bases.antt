@@ -3,9 +3,9 @@ use Rattle.std.proofs.Common.{◌≡◌, ◌∙◌, ◌&&◌, ◌||◌, ℕ, Boo
 use Rattle.std.specs.Prelude.{if◌then◌else◌}
 use Rattle.std.specs.List.{list_any}
 use Rattle.std.specs.Str.{bytes_eq}
-use Rattle.sbl_run_laws.specs.BuiltFrom.{is_affected_by, and_built, any_names, built_from}
-use Rattle.sbl_run_laws.specs.inside.BuiltFromParts.{names}
-use Rattle.sbl_run_laws.specs.inside.BuiltFromParts.{built_after, built_on}
+use Rattle.sbl_machine.specs.BuiltFrom.{is_affected_by, and_built, any_names, built_from}
+use Rattle.sbl_machine.specs.inside.BuiltFromParts.{names}
+use Rattle.sbl_machine.specs.inside.BuiltFromParts.{built_after, built_on}
 use Rattle.sbl_semantics.specs.TouchedItems.{same_item}
 use Rattle.sbl_ast.specs.NamedParts.{Part', Routine, Among, Grouping}
 use Rattle.sbl_semantics.specs.Items.{is_member}

@@ -21,8 +21,8 @@ use Rattle.sbl_semantics.specs.inside.RegionRuns as regions
 use Rattle.sbl_semantics.specs.inside.MeaningParts as parts
 use Rattle.sbl_semantics.specs.Meaning.{counted_does, joined_does, simple_does, moved_does, assigned_does, compared_does, edited_does, search}
 use Rattle.sbl_semantics.specs.inside.MeaningParts.{begins}
-use Rattle.sbl_run_laws.proofs.Steps.{more}
-use Rattle.sbl_run_laws.proofs.StepsActs.{text_more, worth_more}
+use Rattle.sbl_machine.proofs.Steps.{more}
+use Rattle.sbl_machine.proofs.StepsActs.{text_more, worth_more}
 use Rattle.sbl_uses.specs.TreeAmongs.{HasAmong, IsIn, IsInGroups, IsInOthers, IsInRows, IsInStarter}
 use Rattle.sbl_uses.proofs.FirstAmongs.{first_is, none_is, others_are, rows_are}
 use Rattle.sbl_uses.proofs.RunParts.{Any_refusal, Family, GoodIn, Part, Some_end, at, forget, if_part, part_same, signals_good}

@@ -23,7 +23,7 @@ use Rattle.sbl_semantics.specs.Meaning.{Offer, prefixed_does, counted_does, join
 use Rattle.sbl_semantics.specs.inside.MeaningParts.{begins}
 use Rattle.sbl_semantics.specs.declared.fault.RunFault.TheVariants as faults
 use Rattle.sbl_semantics.specs.Outcome.{events_at, events_in, events_of}
-use Rattle.sbl_run_laws.specs.Why.{text_after}
+use Rattle.sbl_machine.specs.Why.{text_after}
 use Rattle.sbl_uses.specs.TreeAmongs.{HasAmong, IsInOthers}
 use Rattle.sbl_uses.proofs.LandmarkAmongs.{has_landmark}
 use Rattle.sbl_uses.specs.Searches.{IsWhole, Course, EachSearchTakesFirst, EndsWith, SearchesTakeFirst, TakesFirst, call_of, course, fits, with_calls, within}

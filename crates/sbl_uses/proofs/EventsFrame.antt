@@ -8,11 +8,11 @@ use Rattle.sbl_semantics.specs.State.{State}
 use Rattle.sbl_semantics.specs.TouchedItems.{names_of}
 use Rattle.sbl_semantics.specs.inside.RegionRuns as regions
 use Rattle.sbl_semantics.proofs.ByLandmarks.{telling_is}
-use Rattle.sbl_run_laws.specs.BuiltFrom.{IsClosed}
-use Rattle.sbl_run_laws.specs.Frame.{AgreeOutside}
-use Rattle.sbl_run_laws.specs.Holes.{holed_script}
-use Rattle.sbl_run_laws.proofs.FrameLaw.{Kin, agree_on, levels_kin, marked_by}
-use Rattle.sbl_run_laws.proofs.FramePairs.{dirty_at}
+use Rattle.sbl_machine.specs.BuiltFrom.{IsClosed}
+use Rattle.sbl_machine.specs.Frame.{AgreeOutside}
+use Rattle.sbl_machine.specs.Holes.{holed_script}
+use Rattle.sbl_machine.proofs.FrameLaw.{Kin, agree_on, levels_kin, marked_by}
+use Rattle.sbl_machine.proofs.FramePairs.{dirty_at}
 
 abbrev start_with_events : DeclaredNames → List ℕ → ℕ → State
 start_with_events ns word limit = record (start ns word limit) { events = Some [] }

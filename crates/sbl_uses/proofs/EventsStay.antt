@@ -2,12 +2,12 @@
 use Rattle.std.proofs.Common.{◌≡◌, ◌∙◌, ℕ, Bool, true, false, List, map, sym, ap, ap₂}
 use Rattle.std.specs.List.{list_any}
 use Rattle.sbl_ast.specs.Source.{Source}
-use Rattle.sbl_run_laws.specs.BuiltFrom.{affected_by, meets_one}
+use Rattle.sbl_machine.specs.BuiltFrom.{affected_by, meets_one}
 use Rattle.sbl_machine.specs.DifferLaws.{DifferingAgree}
-use Rattle.sbl_run_laws.proofs.FrameLaw.{agree_names, clear_by_names, marked_by}
-use Rattle.sbl_run_laws.proofs.FramePairs.{dirty_at}
-use Rattle.sbl_run_laws.proofs.TouchedOrder.{any-mapped}
-use Rattle.sbl_run_laws.proofs.WhyLaw.{events_change_nothing}
+use Rattle.sbl_machine.proofs.FrameLaw.{agree_names, clear_by_names, marked_by}
+use Rattle.sbl_machine.proofs.FramePairs.{dirty_at}
+use Rattle.sbl_machine.proofs.TouchedOrder.{any-mapped}
+use Rattle.sbl_machine.proofs.WhyLaw.{events_change_nothing}
 use Rattle.sbl_semantics.specs.Events.{Event'}
 use Rattle.sbl_semantics.specs.Meaning.{ending_with_events}
 use Rattle.sbl_semantics.specs.Outcome.{events_at, events_of, touched_at, touches_of}

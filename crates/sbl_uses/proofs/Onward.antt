@@ -1,7 +1,7 @@
 -- One part of a run after another.
 use Rattle.std.proofs.Common.{◌≡◌, ◌≤◌, ℕ, zero, suc, ◌+◌, Bool, true, false, List, [], ◌∷◌, ◌++◌, Option, refl, sym, ap, subst, ◌∙◌, append_assoc, append-nil, arith}
 use Rattle.std.specs.Prelude.{⊤}
-use Rattle.sbl_run_laws.specs.Why.{text_after}
+use Rattle.sbl_machine.specs.Why.{text_after}
 use Rattle.sbl_semantics.specs.Items.{Body, DeclaredNames}
 use Rattle.sbl_semantics.specs.declared.fault.RunFault.{RunFault}
 use Rattle.sbl_semantics.specs.declared.fault.RunFault.TheVariants as faults

@@ -12,7 +12,7 @@ use Rattle.std.specs.Cmp.{unsigned_tied}
 use Rattle.std.proofs.lemmas.Map.Text.{is_eq-slice_cmp}
 use Rattle.sbl_rows.proofs.PairFacts.{then_eq}
 use Rattle.sbl_machine.proofs.Order.{map_insert_ref, same_ref_order}
-use Rattle.sbl_run_laws.proofs.TouchedOrder.{any_inserted, item_exact, or_again, or_swap, then_equal}
+use Rattle.sbl_machine.proofs.TouchedOrder.{any_inserted, item_exact, or_again, or_swap, then_equal}
 use Rattle.sbl_machine.specs.ItemRefs.{item_of_ref}
 use Rattle.sbl_machine.specs.contracts.item_ref.ItemRefOrd.TheImpl.{cmp-value}
 use Rattle.sbl_machine.specs.declared.item_ref.ItemRef.{ItemRef}

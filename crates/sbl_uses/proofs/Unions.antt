@@ -3,11 +3,11 @@ use Rattle.std.proofs.Common.{◌≡◌, ◌∙◌, ◌||◌, ℕ, Bool, true, f
 use Rattle.std.specs.List.{list_any}
 use Rattle.sbl_rows.proofs.Putting.{or_false, or_shift}
 use Rattle.sbl_rows.specs.Setting.{Setting}
-use Rattle.sbl_run_laws.specs.BuiltFrom.{is_affected_by, meets}
+use Rattle.sbl_machine.specs.BuiltFrom.{is_affected_by, meets}
 use Rattle.sbl_semantics.specs.Outcome.{touches_of}
 use Rattle.sbl_semantics.specs.TouchedItems.{item_of_touch, names_of, touched_items}
 use Rattle.sbl_ast.specs.NamedParts.{Part'}
-use Rattle.sbl_run_laws.proofs.TouchedOrder.{any_ordered}
+use Rattle.sbl_machine.proofs.TouchedOrder.{any_ordered}
 use Rattle.sbl_uses.specs.Unused.{is_met}
 
 pub or_assoc : (a b c : Bool) → ((a || b) || c) ≡ (a || (b || c))

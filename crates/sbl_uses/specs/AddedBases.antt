@@ -1,6 +1,6 @@
 -- What a definition adds to the items that are touched.
 use Rattle.std.specs.Prelude.{Bool, ◌&&◌, ◌||◌}
-use Rattle.sbl_run_laws.specs.inside.BuiltFromParts.{built_on}
+use Rattle.sbl_machine.specs.inside.BuiltFromParts.{built_on}
 use Rattle.sbl_semantics.specs.TouchedItems.{same_item}
 use Rattle.sbl_ast.specs.NamedParts.{Part', Grouping}
 use Rattle.sbl_ast.specs.Tree.{Plain, grouping}

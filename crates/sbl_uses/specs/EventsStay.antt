@@ -3,7 +3,7 @@ use Rattle.std.specs.Prelude.{◌≡◌, ℕ, false, List, Some}
 use Rattle.sbl_ast.specs.Source.{Source}
 use Rattle.sbl_resolver.specs.Checks.{WellDeclared}
 use Rattle.sbl_rows.specs.Setting.{under}
-use Rattle.sbl_run_laws.specs.BuiltFrom.{meets_one}
+use Rattle.sbl_machine.specs.BuiltFrom.{meets_one}
 use Rattle.sbl_semantics.specs.Differs.{differs}
 use Rattle.sbl_semantics.specs.Outcome.{events_of}
 use Rattle.sbl_ast.specs.NamedParts.{Part'}

@@ -5,7 +5,7 @@ use Rattle.std.specs.Prelude.{Option, Some, None, slice_index_or, slice_set}
 use Rattle.std.specs.List.{flat_map, list_all, list_any}
 use Rattle.sbl_semantics.specs.Meaning.{Offer, calls, ending_with_events, offers, search}
 use Rattle.sbl_semantics.specs.Outcome.{events_at, events_of}
-use Rattle.sbl_run_laws.specs.Why.{text_after}
+use Rattle.sbl_machine.specs.Why.{text_after}
 use Rattle.sbl_semantics.specs.Items.{Body, DeclaredNames, body_named, char_class_of, classes_after, known_in, place_of}
 use Rattle.sbl_semantics.specs.Landmarks.{Among}
 use Rattle.sbl_semantics.specs.Events.{Event', Enters, Leaves, Searches, Finds, Puts}

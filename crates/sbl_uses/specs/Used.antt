@@ -4,7 +4,7 @@ use Rattle.std.specs.List.{filter, list_any}
 use Rattle.std.specs.Str.{bytes_eq}
 use Rattle.sbl_rows.specs.Rows.{Row, rows_of}
 use Rattle.sbl_rows.specs.Setting.{Setting}
-use Rattle.sbl_run_laws.specs.BuiltFrom.{meets}
+use Rattle.sbl_machine.specs.BuiltFrom.{meets}
 use Rattle.sbl_semantics.specs.TouchedItems.{names_of, same_item}
 use Rattle.sbl_ast.specs.NamedParts.{Part', Among}
 use Rattle.sbl_semantics.specs.Outcome.{events_of}

@@ -2,7 +2,7 @@
 use Rattle.std.specs.Prelude.{◌≡◌, ℕ, Bool, true, List, [], ◌∷◌, ◌++◌, length, nat_eq, if◌then◌else◌}
 use Rattle.std.specs.List.{flat_map, list_any}
 use Rattle.sbl_rows.specs.Setting.{Setting}
-use Rattle.sbl_run_laws.specs.BuiltFrom.{is_affected_by}
+use Rattle.sbl_machine.specs.BuiltFrom.{is_affected_by}
 use Rattle.sbl_semantics.specs.TouchedItems.{touched_items}
 use Rattle.sbl_ast.specs.NamedParts.{Part'}
 use Rattle.sbl_uses.specs.Counts.{usable_row}

@@ -2,8 +2,8 @@
 
 ghost use Rattle.std.specs.Prelude.{◌≡◌, ◌||◌, Bool, map, OnOk};
 ghost use Rattle.std.specs.List.{list_any};
-ghost use Rattle.sbl_run_laws.specs.BuiltFrom.{is_affected_by, any_names};
-ghost use Rattle.sbl_run_laws.specs.inside.BuiltFromParts.{names};
+ghost use Rattle.sbl_machine.specs.BuiltFrom.{is_affected_by, any_names};
+ghost use Rattle.sbl_machine.specs.inside.BuiltFromParts.{names};
 ghost use Rattle.sbl_machine.specs.ItemRefs.{item_of_ref, items_of_refs};
 ghost use Rattle.sbl_semantics.specs.TouchedItems.{same_item};
 ghost use Rattle.sbl_ast.specs.NamedParts.{Part', Grouping};

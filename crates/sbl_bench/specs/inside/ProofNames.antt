@@ -4,7 +4,7 @@ use Rattle.std.specs.List.{fold}
 use Rattle.std.specs.Option.{option_map_or}
 use Rattle.sbl_ast.specs.Source.{Source}
 use Rattle.sbl_ast.specs.NamedParts.{Part'}
-use Rattle.sbl_run_laws.specs.BuiltFrom.{meets_one}
+use Rattle.sbl_machine.specs.BuiltFrom.{meets_one}
 use Rattle.sbl_rows.specs.Setting.{Setting}
 use Rattle.sbl_bench.specs.Contents.{Contents, max_runs, max_words}
 use Rattle.sbl_bench.specs.Edits.{Edit, runs_needed, words_after}

@@ -4,7 +4,7 @@ use Rattle.std.specs.List.{list_any}
 use Rattle.std.specs.Str.{bytes_eq}
 use Rattle.sbl_bench.specs.KeptRuns.{setting_of}
 use Rattle.sbl_bench.specs.Traces.{rows_meeting}
-use Rattle.sbl_run_laws.specs.BuiltFrom.{meets}
+use Rattle.sbl_machine.specs.BuiltFrom.{meets}
 use Rattle.sbl_machine.specs.Marks.{has_item}
 use Rattle.sbl_rows.specs.Rows.{view_row}
 use Rattle.sbl_rows.specs.declared.row.Row as declared

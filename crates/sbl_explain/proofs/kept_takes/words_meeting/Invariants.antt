@@ -2,7 +2,7 @@ use Rattle.std.proofs.Common.{◌≡◌, ℕ, List, true, false, drop, map}
 use Rattle.std.specs.List.{list_any}
 use Rattle.sbl_bench.specs.KeptRuns.{setting_of}
 use Rattle.sbl_bench.specs.Vocabulary.{is_word}
-use Rattle.sbl_run_laws.specs.BuiltFrom.{meets}
+use Rattle.sbl_machine.specs.BuiltFrom.{meets}
 use Rattle.sbl_semantics.specs.TouchedItems.{item_of}
 use Rattle.sbl_ast.specs.NamedParts.{Part'}
 use Rattle.sbl_explain.specs.Kept.{HasItems, is_one_of}

@@ -1,7 +1,7 @@
 use Rattle.std.proofs.Common.{◌∙◌, ap}
 use Rattle.std.specs.List.{list_any}
 use Rattle.sbl_bench.specs.KeptRuns.{setting_of}
-use Rattle.sbl_run_laws.specs.BuiltFrom.{is_affected_by}
+use Rattle.sbl_machine.specs.BuiltFrom.{is_affected_by}
 use Rattle.sbl_machine.specs.ItemRefs.{items_of_refs}
 use Rattle.sbl_script.specs.ParsedScript.{ParsedScript, source_of}
 use Rattle.sbl_uses.proofs.Unions.{met_words}

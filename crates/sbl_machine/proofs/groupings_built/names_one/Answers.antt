@@ -2,7 +2,7 @@ use Rattle.std.proofs.Common.{◌≡◌, ◌∙◌, ap, sym}
 use Rattle.sbl_semantics.specs.Items.{is_member}
 use Rattle.sbl_compiler.proofs.SoundItems.{among_is}
 use Rattle.sbl_ast.specs.View.{view_argument}
-use Rattle.sbl_run_laws.specs.inside.BuiltFromParts.{names}
+use Rattle.sbl_machine.specs.inside.BuiltFromParts.{names}
 use Rattle.sbl_machine.proofs.groupings_built.names_one.Goals as goal
 
 pub returns-in-Name : goal.returns-in-Name

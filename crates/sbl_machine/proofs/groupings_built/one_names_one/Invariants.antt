@@ -1,7 +1,7 @@
 use Rattle.std.proofs.Common.{◌≡◌, drop, map}
 use Rattle.sbl_semantics.specs.Items.{is_member}
 use Rattle.sbl_ast.specs.View.{view_term}
-use Rattle.sbl_run_laws.specs.BuiltFrom.{any_names}
+use Rattle.sbl_machine.specs.BuiltFrom.{any_names}
 use Rattle.sbl_machine.proofs.groupings_built.one_names_one.Given as goal
 
 -- none so far

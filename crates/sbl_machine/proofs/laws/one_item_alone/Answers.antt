@@ -1,4 +1,4 @@
-use Rattle.sbl_machine.proofs.OneItem.{one_affects, one_meets}
+use Rattle.sbl_machine.proofs.Several.{one_affects, one_meets}
 use Rattle.sbl_machine.proofs.laws.one_item_alone.Goals as goal
 
 pub returns-clause-affects : goal.returns-clause-affects

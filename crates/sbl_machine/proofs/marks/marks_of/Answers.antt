@@ -3,7 +3,7 @@ use Rattle.sbl_ast.specs.Order.{in_order}
 use Rattle.sbl_ast.specs.View.{view_items}
 use Rattle.sbl_machine.specs.Marking.{amongs_in, groupings_after, with_marks, routines_after}
 use Rattle.sbl_machine.specs.AmongList.{numbers_of}
-use Rattle.sbl_run_laws.specs.inside.BuiltFromParts.{built_after}
+use Rattle.sbl_machine.specs.inside.BuiltFromParts.{built_after}
 use Rattle.sbl_semantics.specs.TouchedItems.{item_of}
 use Rattle.sbl_machine.proofs.marks.marks_of.Goals as goal
 

@@ -1,7 +1,7 @@
 use Rattle.std.proofs.Common.{◌≡◌, ◌∙◌, ◌&&◌, ◌||◌, Bool, List, ℕ, ap, map, string_bytes, sym, true}
 use Rattle.std.specs.List.{list_any}
-use Rattle.sbl_run_laws.specs.BuiltFrom.{any_names}
-use Rattle.sbl_run_laws.specs.inside.BuiltFromParts.{names}
+use Rattle.sbl_machine.specs.BuiltFrom.{any_names}
+use Rattle.sbl_machine.specs.inside.BuiltFromParts.{names}
 use Rattle.sbl_machine.specs.ItemRefs.{items_of_refs}
 use Rattle.sbl_semantics.specs.TouchedItems.{same_item}
 use Rattle.sbl_ast.specs.NamedParts.{Grouping}

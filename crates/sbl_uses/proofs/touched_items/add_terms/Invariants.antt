@@ -1,6 +1,6 @@
 use Rattle.std.proofs.Common.{◌≡◌, ◌||◌, Bool, drop, map}
 use Rattle.std.specs.List.{list_any}
-use Rattle.sbl_run_laws.specs.BuiltFrom.{any_names}
+use Rattle.sbl_machine.specs.BuiltFrom.{any_names}
 use Rattle.sbl_machine.specs.ItemRefs.{items_of_refs}
 use Rattle.sbl_ast.specs.NamedParts.{Part', Grouping}
 use Rattle.sbl_ast.specs.View.{view_term}

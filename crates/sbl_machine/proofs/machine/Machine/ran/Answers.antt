@@ -1,6 +1,6 @@
 use Rattle.sbl_machine.specs.MachineOf.{IsMachineOf, listed_in, machine_plan}
 use Rattle.sbl_semantics.specs.Outcome.{run_of, touches_of, used_of}
-use Rattle.sbl_run_laws.proofs.SoundRuns.{same_run}
+use Rattle.sbl_machine.proofs.SoundRuns.{same_run}
 use Rattle.sbl_machine.proofs.Ended.{same_outcome, same_touches, same_used}
 use Rattle.sbl_machine.proofs.machine.Machine.ran.Goals as goal
 

@@ -1,8 +1,8 @@
 use Rattle.std.proofs.Common.{ap, ◌∙◌}
 use Rattle.sbl_machine.specs.MachineOf.{IsMachineOf, listed_in, machine_plan}
 use Rattle.sbl_semantics.specs.Outcome.{integers_at, outcome_at, used_at, events_at, events_in, events_of}
-use Rattle.sbl_run_laws.proofs.SoundRuns.{same_telling}
-use Rattle.sbl_run_laws.proofs.WhyLaw.{events_change_nothing}
+use Rattle.sbl_machine.proofs.SoundRuns.{same_telling}
+use Rattle.sbl_machine.proofs.WhyLaw.{events_change_nothing}
 use Rattle.sbl_machine.proofs.machine.Machine.why_in.Goals as goal
 
 pub returns-clause-outcome : goal.returns-clause-outcome

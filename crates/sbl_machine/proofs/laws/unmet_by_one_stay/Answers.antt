@@ -1,0 +1,5 @@
+use Rattle.sbl_machine.proofs.EditsAgree as edits
+use Rattle.sbl_machine.proofs.laws.unmet_by_one_stay.Goals as goal
+
+pub returns : goal.returns
+returns c = edits.unmet_by_one_stay c.well_declared_passes.ensures

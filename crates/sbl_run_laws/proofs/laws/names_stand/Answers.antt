@@ -1,5 +1,0 @@
-use Rattle.sbl_run_laws.proofs.NamesStand as stand
-use Rattle.sbl_run_laws.proofs.laws.names_stand.Goals as goal
-
-pub returns : goal.returns
-returns c = stand.names_stand c.names_resolve.ensures c.well_declared_passes.ensures

@@ -1,2 +1,0 @@
--- Names for parts of definitions, for proofs and for functions of other crates.
-pub mod BuiltFromParts
