@@ -2,10 +2,10 @@
 
 ghost use Rattle.std.specs.Prelude.{◌≤◌, IfErr};
 
-use crate::failures::{print_failure, print_line};
+use crate::failures::{NO_MEMORY, print_line};
 use clap::error::ErrorKind;
-use sbl_messages::{Failure, REFUSED, plain};
-use snowbench::{Verb, Wanted, read_words};
+use sbl_messages::{FAILED, REFUSED, plain};
+use snowbench::{Wanted, read_words};
 use std::io;
 
 /// The line if a word of the command line is not UTF-8.
@@ -38,7 +38,8 @@ fn refuse_words(rt: &HostRuntime, error: &io::Error) -> u8
     ensures most { result ≤ 2 }
 {
     if error.kind() == io::ErrorKind::OutOfMemory {
-        return print_failure(rt, Verb::Session, Failure::OutOfMemory);
+        print_line(rt, NO_MEMORY);
+        return FAILED;
     }
     print_line(rt, NOT_UTF8);
     REFUSED
@@ -54,6 +55,9 @@ fn refuse_line(rt: &HostRuntime, error: &clap::Error) -> u8
             let _ = eprint!(rt; "{text}");
             REFUSED
         }
-        _ => print_failure(rt, Verb::Session, Failure::OutOfMemory),
+        _ => {
+            print_line(rt, NO_MEMORY);
+            FAILED
+        }
     }
 }

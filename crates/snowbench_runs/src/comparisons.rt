@@ -1,7 +1,5 @@
 //! `compare` over files.
 
-ghost use Rattle.std.specs.Prelude.{◌≤◌, IfOk};
-
 use crate::failures::word_keys;
 use crate::files::read_file;
 use crate::progress_line::ProgressLine;
@@ -30,9 +28,7 @@ fn read_compared<'a>(rt: &HostRuntime, names: FileNames<'a>) -> Result<RunFiles<
 }
 
 /// Compares the scripts of two files over the words of a third, and returns the exit status.
-pub(crate) fn run_compare(rt: &HostRuntime, wanted: &Wanted) -> Result<u8, Failure>
-    ensures status { IfOk result (λ status. status ≤ 2) }
-{
+pub(crate) fn run_compare(rt: &HostRuntime, wanted: &Wanted) -> Result<u8, Failure> {
     let options = &wanted.options;
     let (Some(old), Some(new), Some(words)) = (&options.old, &options.new, &options.words) else {
         return Ok(REFUSED);
@@ -62,9 +58,7 @@ fn compare_in_rows(
     rt: &HostRuntime,
     files: &RunFiles<'_>,
     input: &CompareInput<'_>,
-) -> Result<u8, Failure>
-    ensures status { IfOk result (λ status. status ≤ 2) }
-{
+) -> Result<u8, Failure> {
     let mut writer = Device::new(Output::new(rt.stdout()));
     let keys = word_keys(rt)?;
     let mut progress = ProgressLine::new(rt, Verb::Compare);
@@ -84,9 +78,7 @@ fn compare_in_words(
     rt: &HostRuntime,
     files: &RunFiles<'_>,
     input: &CompareInput<'_>,
-) -> Result<u8, Failure>
-    ensures status { IfOk result (λ status. status ≤ 2) }
-{
+) -> Result<u8, Failure> {
     let keys = word_keys(rt)?;
     let mut progress = ProgressLine::new(rt, Verb::Compare);
     let opened = open_pair(rt.alloc(), keys, input, &mut progress);

@@ -7,7 +7,7 @@ use snowbench::{Verb, WordKeys};
 use std::hash::RandomState;
 
 /// The line if an allocation fails.
-const NO_MEMORY: &str = "snowbench: 49 OutOfMemory";
+pub(crate) const NO_MEMORY: &str = "snowbench: 49 OutOfMemory";
 
 /// Prints a line.
 pub(crate) fn print_line(rt: &HostRuntime, line: &str) {

@@ -1,7 +1,5 @@
 //! Runs over files.
 
-ghost use Rattle.std.specs.Prelude.{◌≤◌, IfOk};
-
 use crate::failures::{print_line, word_keys};
 use crate::files::{open_named, read_file, read_files};
 use crate::progress_line::ProgressLine;
@@ -31,9 +29,7 @@ pub(crate) fn run_session(
     rt: &HostRuntime,
     wanted: &Wanted,
     names: FileNames<'_>,
-) -> Result<u8, Failure>
-    ensures status { IfOk result (λ status. status ≤ 2) }
-{
+) -> Result<u8, Failure> {
     let files = read_files(rt, names, "commands")?;
     let keys = word_keys(rt)?;
     let (result, output, refusals) = answer_files(rt, wanted, keys, names.rest.is_some(), &files)?;
@@ -72,9 +68,7 @@ pub(crate) fn run_check(
     rt: &HostRuntime,
     wanted: &Wanted,
     names: FileNames<'_>,
-) -> Result<u8, Failure>
-    ensures status { IfOk result (λ status. status ≤ 2) }
-{
+) -> Result<u8, Failure> {
     if names.rest.is_none() {
         return Err(Failure::Fixed(THREE_FILES, REFUSED));
     }
@@ -106,9 +100,7 @@ pub(crate) fn run_filter(
     rt: &HostRuntime,
     wanted: &Wanted,
     names: FileNames<'_>,
-) -> Result<u8, Failure>
-    ensures status { IfOk result (λ status. status ≤ 2) }
-{
+) -> Result<u8, Failure> {
     if reads_twice(names) {
         return run_input(rt, wanted);
     }
@@ -128,9 +120,7 @@ fn filter_words<R: Read + Drop>(
     script: NamedFile<'_>,
     name: &str,
     words: R,
-) -> Result<u8, Failure>
-    ensures status { IfOk result (λ status. status ≤ 2) }
-{
+) -> Result<u8, Failure> {
     let mut lines = Lines::new(rt.alloc(), Device::new(words))?;
     let mut writer = Device::new(Output::new(rt.stdout()));
     let external = wanted.external.as_str();

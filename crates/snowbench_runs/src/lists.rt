@@ -1,7 +1,5 @@
 //! `run --as FORM`: the words and stems of files as a list.
 
-ghost use Rattle.std.specs.Prelude.{◌≤◌, IfOk};
-
 use crate::failures::{print_line, word_keys};
 use crate::files::read_files;
 use sbl_messages::{
@@ -16,9 +14,7 @@ pub(crate) fn run_list(
     wanted: &Wanted,
     form: &str,
     names: FileNames<'_>,
-) -> Result<u8, Failure>
-    ensures status { IfOk result (λ status. status ≤ 2) }
-{
+) -> Result<u8, Failure> {
     let Some(kind) = list_kind(form) else {
         return Err(Failure::Fixed(NO_FORM, REFUSED));
     };

@@ -1,7 +1,5 @@
 //! Runs over standard input.
 
-ghost use Rattle.std.specs.Prelude.{◌≤◌, IfOk};
-
 use crate::failures::{print_line, word_keys};
 use crate::session_watch::PlaceWatch;
 use sbl_diagnostics::STANDARD_INPUT;
@@ -33,9 +31,7 @@ fn answer_input(
 }
 
 /// Runs what the command line asks for over standard input, and returns the exit status.
-pub(crate) fn run_input(rt: &HostRuntime, wanted: &Wanted) -> Result<u8, Failure>
-    ensures status { IfOk result (λ status. status ≤ 2) }
-{
+pub(crate) fn run_input(rt: &HostRuntime, wanted: &Wanted) -> Result<u8, Failure> {
     let keys = word_keys(rt)?;
     let kept = RefCell::new(FirstBytes::new(rt.alloc(), wanted.options.shows_places));
     let (result, output, refusals) = answer_input(rt, wanted, keys, &kept)?;

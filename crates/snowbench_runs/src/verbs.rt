@@ -1,6 +1,6 @@
 //! The verbs over files and over standard input.
 
-ghost use Rattle.std.specs.Prelude.{◌≡◌, ◌≤◌, IfOk, Ok};
+ghost use Rattle.std.specs.Prelude.{◌≡◌, Ok};
 
 use crate::comparisons::run_compare;
 use crate::file_runs::{run_check, run_filter, run_session};
@@ -16,8 +16,7 @@ const NAMED_TWICE: &str =
 /// Does what the command line asks for, and returns the exit status. `work` has an entry of its own: here it reads and writes nothing, and
 /// is refused.
 pub fn run_verb(rt: &HostRuntime, wanted: &Wanted) -> Result<u8, Failure>
-    ensures work { wanted.now.verb ≡ Verb.Work → result ≡ Ok 2 }
-    ensures status { IfOk result (λ status. status ≤ 2) }
+    ensures { wanted.now.verb ≡ Verb.Work → result ≡ Ok 2 }
 {
     match wanted.verb {
         Verb::Work => return Ok(REFUSED),
@@ -31,9 +30,11 @@ pub fn run_verb(rt: &HostRuntime, wanted: &Wanted) -> Result<u8, Failure>
 }
 
 /// Runs over files, and returns the exit status.
-fn run_over_files<'x>(rt: &HostRuntime, wanted: &'x Wanted, script: &'x str) -> Result<u8, Failure>
-    ensures status { IfOk result (λ status. status ≤ 2) }
-{
+fn run_over_files<'x>(
+    rt: &HostRuntime,
+    wanted: &'x Wanted,
+    script: &'x str,
+) -> Result<u8, Failure> {
     let options = &wanted.options;
     let names = FileNames {
         script,
