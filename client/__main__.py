@@ -3,6 +3,7 @@ in the user's cache: compiling them takes longer than the rest of the start. A f
 """
 import importlib
 import os
+import signal
 import sys
 
 
@@ -23,4 +24,7 @@ if cache():
 # (by a first word that is no file: the verbs of ./snowbench that are no terminal)
 FACES = {"--lsp": "editor.lsp", "--page": "page.serve", "--report": "page.report", "--converting": "warn"}
 face = FACES.get(sys.argv[1]) if len(sys.argv) > 1 else None
+if not face and signal.getsignal(signal.SIGINT) == signal.default_int_handler:
+    # (until the terminal is taken, Ctrl-C ends this process without a trace of its modules)
+    signal.signal(signal.SIGINT, signal.SIG_DFL)
 sys.exit(importlib.import_module("voltizug." + (face or "terminal.terminal")).main(sys.argv[2 if face else 1 :]))

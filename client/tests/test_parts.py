@@ -1,4 +1,5 @@
 """The parts that know no terminal: rows, layouts, loops, near names, warnings, options, what is kept."""
+import io
 import os
 import re
 import subprocess
@@ -16,6 +17,8 @@ from voltizug.names import Names
 from voltizug.places import Places, line_and_column
 from voltizug.program import Reply
 from voltizug.terminal.completion import Completion
+from voltizug.terminal.keys import Broken
+from voltizug.terminal.screen import Screen
 
 from .kit import CLIENT, Case, write
 
@@ -145,6 +148,14 @@ class Others(Case):
         self.assertEqual((moved.of("s", "1", "x"), moved.is_typed("s")), ("my.sbl:3:15", False))
         typed = Places("my.sbl", text, b"define s as 'y'", found, [])
         self.assertEqual((typed.of("s"), typed.is_typed("s")), ("not in my.sbl: line 1 of s", True))
+
+    def test_ctrl_c_cuts_reports_alone(self):
+        """What is said is shown, also after Ctrl-C: at the start it is why a file is refused."""
+        screen = Screen(SimpleNamespace(is_above=False, is_interrupted=True, pending=[], has_key=lambda: False), "never", False)
+        with unittest.mock.patch("sys.stdout", io.StringIO()) as shown:
+            screen.say("my.words has more than 100,000 words.")
+            self.assertRaises(Broken, screen.write, ["  un: undo"], is_report=True)
+        self.assertEqual(shown.getvalue(), "my.words has more than 100,000 words.\n")
 
     def test_a_row_with_a_megabyte(self):
         self.assertEqual(len(rows.rows_of(["routine," + "x" * 1000000])[0][1]), 1000000)

@@ -838,6 +838,13 @@ class Traps(Case):
                 self.assertIn("plural as true", again.enter("script"))
                 self.assertIn("in no file", again.enter("quit"))
 
+    def test_a_list_that_is_far_too_long(self):
+        """It is refused, and its lines are not searched for what was not meant, which would take seconds."""
+        room = self.room(my_sbl="externals ( stem )\ndefine stem as true\n", my_words="a \n" + "".join("w%d\n" % i for i in range(100001)))
+        shown = self.terminal(room).got()
+        self.assertIn("my.words has more than 100,000 words.", shown)
+        self.assertNotIn("a blank", shown)
+
     def test_a_rescue_over_a_script_that_has_changed(self):
         """It says what the rescued text lacks, and the first save asks, also after undo and redo, and after a second rescue."""
         terminal, other = self.begin(), AUTHOR.replace("hop 5", "hop 4") + "// a comment\n"

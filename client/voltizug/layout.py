@@ -30,6 +30,11 @@ def short(text: str) -> str:
     return named(text) if len(text) <= LONGEST else named(text[:29]) + ".." + named(text[-29:])
 
 
+def in_quotes(word: str, is_sure: bool = False) -> str:
+    """Returns a word for a sentence: in quotes if it has a blank or a comma at an end, or if it is surely said to have quotes."""
+    return '"%s"' % short(word) if is_sure or word != word.strip().strip(",") else short(word)
+
+
 def quoted(name: str) -> str:
     """Returns a word or a stem as it is shown: in quotes if it has a blank at an end."""
     return '"%s"' % named(name) if name != name.strip() else named(name) or "(empty)"
@@ -102,7 +107,7 @@ def shifted(stems: Sequence[bytes], now: Sequence[bytes]) -> Optional[int]:
 
 def in_words(names: Sequence[str], last: str, most: int = 20) -> str:
     """Returns names as a list in words: a, b or c. Of many it has the first ones and their number."""
-    shown = list(map(short, names)) if len(names) <= most else [*map(short, names[: most - 1]), "{:,} more".format(len(names) - most + 1)]
+    shown = list(map(in_quotes, names)) if len(names) <= most else [*map(in_quotes, names[: most - 1]), "{:,} more".format(len(names) - most + 1)]
     return shown[0] if len(shown) == 1 else "%s %s %s" % (", ".join(shown[:-1]), last, shown[-1])
 
 

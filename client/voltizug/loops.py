@@ -2,9 +2,9 @@
 from typing import Any, List, NamedTuple, Optional, Sequence, Tuple
 
 from .bench import Bench
-from .layout import in_words, short
+from .layout import in_quotes, in_words, short
 from .places import GROWING, TURNING
-from .words import REFUSALS, in_quotes
+from .words import REFUSALS
 
 # The refusals of which a place may be known.
 NAMES = ("Steps", "Depth", "TooLong")

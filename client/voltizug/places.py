@@ -39,21 +39,16 @@ class Places:
         return self.at(name, int(row.start)) if row else ""
 
     def at(self, name: str, start: int) -> str:
-        """Returns the place of a byte of the current text that is in the definition of a name."""
-        home, first = self.definitions[name], self.in_file(name)
-        if first is not None:
-            return "%s:%d:%d%s" % (self.script, *line_and_column(self.file_text or b"", first + start - int(home.start)), self.note)
-        return "not in %s: line %d of %s" % (self.script, self.text.count(b"\n", int(home.start), start) + 1, name)
+        """Returns the place of a byte of the current text that is in the definition of a name, or in none: in SCRIPT, or in what was typed."""
+        begin, first = int(self.definitions[name].start) if name else 0, self.in_file(name) if name else None
+        same = self.same_in_file(start) if first is None else first + start - begin
+        if same is not None:
+            return "%s:%d:%d%s" % (self.script, *line_and_column(self.file_text or b"", same), self.note)
+        return "not in %s: line %d of %s" % (self.script, self.text.count(b"\n", begin, start) + 1, name or "the current script")
 
     def spot(self, start: int) -> str:
-        """Returns the place of a byte of the current text, in SCRIPT or in what was typed."""
-        home = next((name for name, row in self.definitions.items() if int(row.start) <= start < int(row.end)), "")
-        if home:
-            return self.at(home, start)
-        same = self.same_in_file(start)
-        if same is not None:
-            return "%s:%d:%d" % (self.script, *line_and_column(self.file_text or b"", same))
-        return "not in %s: line %d of the current script" % (self.script, self.text.count(b"\n", 0, start) + 1)
+        """Returns the place of a byte of the current text."""
+        return self.at(next((name for name, row in self.definitions.items() if int(row.start) <= start < int(row.end)), ""), start)
 
     def same_in_file(self, start: int) -> Optional[int]:
         """Returns where SCRIPT has a byte of the current text, if what comes before its line, or after it, is the same there."""

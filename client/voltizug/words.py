@@ -9,7 +9,7 @@ from typing import Callable, Dict, Sequence, Tuple
 from .bench import Bench, Stage
 from .commands import COMMANDS, NAMED, OPEN_BLOCKS, STRANGE
 from .kept import is_same, read_file, read_lines
-from .layout import counted, in_words, named, short
+from .layout import counted, in_quotes, in_words, named, short
 from .near import composed, folded, meant, near, odd_letter
 from .places import Places
 from .options import CALLED
@@ -120,16 +120,12 @@ def file_of(line: str, bench: Stage) -> str:
     return (bench.words if line == "words" else line.partition(" ")[2] or bench.script) or ""
 
 
-def in_quotes(word: str, is_sure: bool = False) -> str:
-    return '"%s"' % short(word) if is_sure or word != word.strip() else short(word)
-
-
 def absent(line: str, bench: Stage) -> str:
     command, _, word = line.partition(" ")
     words, form = bench.by_word(), folded(word)
     same = [other for other in words if folded(other).strip() == form.strip()]
     is_other = not same or composed(word) in map(composed, same)
-    question = meant(word, words) if is_other else " Did you mean %s?" % in_words(list(map(in_quotes, same[:4])), "or")
+    question = meant(word, words) if is_other else " Did you mean %s?" % in_words(same[:4], "or")
     if command == "class" and bench.known("stem " + word) is not None:
         return "%s is a stem and no word: stem %s shows its words." % (in_quotes(word), short(word))
     ways = ['"why {0}" shows how it would be stemmed'] * (not question and command not in ("remove", "why"))

@@ -12,7 +12,7 @@ from .. import loops, rows, words
 from ..bench import Bench
 from ..conditions import with_tests
 from ..kept import read_file, state_of
-from ..layout import counted, in_words, named, short
+from ..layout import counted, in_quotes, in_words, named, short
 from ..lints import lints
 from ..places import BOM
 from ..program import BROKEN_OFF, DONE, ENDED, Reply
@@ -418,7 +418,7 @@ class Live:
         with self.asking():
             known = set(self.outcomes.words)
             there, new = [word for word in new if word in known], [word for word in dict.fromkeys(new) if word not in known]
-            blank, added = [words.in_quotes(word, True) for word in new if " " in word], counted(len(new), "word is", "words are") + " added."
+            blank, added = [in_quotes(word, True) for word in new if " " in word], counted(len(new), "word is", "words are") + " added."
             said = "In the vocabulary already: %s. %s" % (in_words(there, "and", 5), added) if there else ""
             said += " A blank is a part of the word: %s." % in_words(blank, "and", 5) if blank else ""
             try:

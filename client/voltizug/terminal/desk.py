@@ -51,20 +51,20 @@ class Desk:
         """Has the files read, and shows figures; if one has a fault, shows it. Returns whether `work` goes on: it is open, or waits."""
         bench, before = self.bench, self.files
         self.files = [kept.read_file(path) for path in self.paths]
-        warned = 0 if self.misplaced() else self.warn(bench.words)
         reply = bench.open()
         if reply.is_done and bench.program.rows != ROWS:
             self.screen.say("The program writes rows %s, and this client knows rows %s: they are not of one version." % (bench.program.rows, ROWS))
             return False
-        if reply.is_done:
-            self.status = 0
-            self.show_figures(reply)
-            return True
         if reply.state == BROKEN:
             self.status = self.status if self.has_waited else INTERRUPTED
-            self.screen.say("It was broken off. %s quit or Ctrl-D ends." % self.correction(bench.script) if self.has_waited else "")
+            self.screen.say("It was broken off." + " %s quit or Ctrl-D ends." % self.correction(bench.script) * self.has_waited)
             return self.has_waited
-        return self.wait(reply, before == self.files, warned)
+        warned = 0 if self.misplaced() else self.warn(bench.words, faults.code_of(reply.said))
+        if not reply.is_done:
+            return self.wait(reply, before == self.files, warned)
+        self.status = 0
+        self.show_figures(reply)
+        return True
 
     def wait(self, reply: Reply, is_same: bool, warned: int) -> bool:
         """Shows why the program has ended, if no single warning does. Returns whether `work` waits: a file has a fault that its author corrects."""
@@ -96,7 +96,7 @@ class Desk:
         say(*self.new_lints())
         refused = [row for row in bench.outcomes() if row.kind == "refused"] if figures["refused"] else []
         for row in refused[:1]:
-            say("The first refused word is %s (%s). %s" % (words.in_quotes(row.word), row.stem, loops.ending(row.word, bench)))
+            say("The first refused word is %s (%s). %s" % (layout.in_quotes(row.word), row.stem, loops.ending(row.word, bench)))
         all_left = bench.kept.left()
         for left in [left for left in all_left if left.block]:
             self.editor.remember(*left.block)
@@ -180,9 +180,6 @@ class Desk:
             edits = "What you typed is kept: the next start over the same script offers it." if is_kept else "No edit is lost."
             self.screen.say("The program could not be started again. " + edits)
             raise Hangup
-        if reply.state != DONE or reply.refusal() == BROKEN_OFF:
-            # (Ctrl-C may have come again, and this is to be seen)
-            self.editor.is_interrupted = False
         self.screen.say("The last command was not done: type it again." * (reply.state == ENDED))
         return reply.state == DONE
 
@@ -206,7 +203,7 @@ class Desk:
         code, name = reply.refusal() or (0, "")
         self.show_fault(reply.said, lines)
         said = words.sentence(reply, lines, self.bench)
-        if lines[0] in ("reload", "words") and code != BROKEN_OFF[0] and self.warn(self.bench.words if lines[0] == "words" else None) and code in (43, 75):
+        if lines[0] in ("reload", "words") and code != BROKEN_OFF[0] and self.warn(self.bench.words if lines[0] == "words" else None, code) and code in (43, 75):
             # (the warning says more)
             said = "Nothing changed."
         if lines[0] == "reload" and not os.path.lexists(self.bench.script):
@@ -262,9 +259,9 @@ class Desk:
         self.warned += found
         return found
 
-    def warn(self, path: Optional[str] = None) -> int:
-        """Gives these warnings. Returns how many they are."""
-        found = self.new_warnings(path)
+    def warn(self, path: Optional[str] = None, code: int = 0) -> int:
+        """Gives these warnings. Returns how many they are. (A list that was refused for its length may be so long that this takes seconds.)"""
+        found = self.new_warnings(path if code != 44 else None)
         self.screen.write(found)
         return len(found)
 

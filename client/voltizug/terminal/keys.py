@@ -175,6 +175,7 @@ class Editor:
     def read(self, prompt: str) -> Optional[str]:
         """Returns a line, or nothing at the end. Lines that were pasted together come one by one."""
         if self.pending:
+            self.is_interrupted = False
             print(prompt + self.pending[0], flush=True)
             return self.pending.pop(0)
         sys.stdout.flush()

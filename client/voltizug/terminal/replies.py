@@ -23,7 +23,7 @@ class Replies(Desk):
             return ['The word that was added is "%s", with a blank at its %s. "remove %s" takes it out.' % (short(word), at, short(word))]
         last, there = rows.rows_of((self.bench.known("why " + word) or ["stem,"])[-1:])[0], set(self.bench.by_word() if not word.isascii() else []) - {word}
         form = warn.on_typed("add " + word, word, there) if not meant(word, there).startswith(" It") else [meant(word, there).lstrip()]
-        return ["%s is added: %s" % (words.in_quotes(word, " " in word), layout.outcome(*last[:2])), *form]
+        return ["%s is added: %s" % (layout.in_quotes(word, " " in word), layout.outcome(*last[:2])), *form]
 
     def reply_find(self, text: str, lines: Sequence[str]) -> List[str]:
         there = [row.word + "\n" + row.stem for row in self.bench.outcomes()] if not lines and not text.isascii() else []
@@ -82,8 +82,8 @@ class Replies(Desk):
         """Returns the first word of families that is not in the vocabulary, and the first one that is in two of them."""
         there, families = self.bench.by_word(), [dict.fromkeys(filter(None, re.split("[ \t\r,]+", line))) for line in text.split("\n")]
         found = Counter(word for family in families for word in family)
-        first = ["The first word that is not in the vocabulary is %s." % words.in_quotes(word) for word in found if word not in there][:1]
-        return first + ["%s is in more than one family, and counts in the first one." % words.in_quotes(word) for word, count in found.items() if count > 1][:1]
+        first = ["The first word that is not in the vocabulary is %s." % layout.in_quotes(word) for word in found if word not in there][:1]
+        return first + ["%s is in more than one family, and counts in the first one." % layout.in_quotes(word) for word, count in found.items() if count > 1][:1]
 
     def reply_why(self, word: str, lines: Sequence[str]) -> List[str]:
         figures, events, _ = self.run_of(word, lines)

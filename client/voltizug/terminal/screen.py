@@ -43,7 +43,7 @@ class Screen:
         if self.has_colour and not is_text:
             shown = list(map(layout.coloured, shown))
         try:
-            while shown and (self.editor.is_above or not self.editor.is_interrupted):
+            while shown and not (is_report and self.editor.is_interrupted and not self.editor.is_above):
                 sys.stdout.write("".join(line + "\n" for line in shown[:PART]))
                 sys.stdout.flush()
                 del shown[:PART]

@@ -86,11 +86,14 @@ class Terminal(Replies):
     def take_step(self, line: str) -> None:
         """Makes an edit that has no block. Enter is for what was saved: if nothing was, it asks before it drops what was typed."""
         is_same = self.bench.script not in self.bench.saved() and self.bench.refused_text is None and os.path.exists(self.bench.script)
-        drops = not line and is_same and self.bench.is_unsaved(self.bench.program.now.text)
-        what = "has a change that the current script lacks: Enter again reads it and" if self.bench.is_older else "has not changed: Enter again"
+        text, is_older = self.bench.program.now.text, self.bench.is_older
+        is_unsaved = self.bench.is_unsaved(text)
+        # (after undo over a reload it was said that Enter reads the file again)
+        drops = not line and is_same and (is_unsaved or text != self.bench.file_text and not is_older)
+        what = "has a change that the current script lacks: Enter again reads it and" if is_older else "has not changed: Enter again"
         # (an empty line among others that were pasted is no Enter)
         is_pasted = drops and (self.editor.pending or self.editor.has_key())
-        doubt = "%s %s drops what you typed." % (short(self.bench.script), what) if drops else ""
+        doubt = "%s %s %s." % (short(self.bench.script), what, "drops what you typed" if is_unsaved else "takes it in place of the current script") if drops else ""
         command, _, word = self.bench.last_words.partition(" ")
         if line == "undo" and command and any(row.kind == "done" for row in self.bench.read("history")):
             doubt = "undo takes back edits of the script, and no words: %s %s does that. undo again takes back the last edit." % ("remove" if command == "add" else "add", short(word))
@@ -148,7 +151,7 @@ class Terminal(Replies):
         moved = "%s. It seems that words were put in before %s: then each stem after it would be compared with that of another word. Put new words "
         moved += "at the end, or approve the stems again. The same line again takes them as they are."
         if shifted is not None:
-            doubt = moved % (sizes, words.in_quotes(outcomes[shifted].word))
+            doubt = moved % (sizes, layout.in_quotes(outcomes[shifted].word))
         is_doubtful = is_text and (2 * others > len(stems) <= len(outcomes) or shifted is not None)
         if is_doubtful and self.is_out_of_order():
             doubt = "Words were removed or added since %s was read: the stems of %s are of other words, perhaps. words reads it again. The same line again takes them as they are."
@@ -167,8 +170,8 @@ class Terminal(Replies):
     def do_add(self, text: str, command: str = "add") -> None:
         parts, reply, text = text.split(), "one", text if text.strip() else ""
         if len(parts) > 1 and not self.editor.pending:
-            prompt = '{0} %d words (%s)? y {1}s them, "one" {1}s one word with blanks in it, Enter {1}s nothing: '.format(command.capitalize(), command)
-            reply = self.asked(prompt % (len(parts), in_words(parts, "and", 6)))
+            prompt = '{0} %d words (%s)? %sy {1}s them, "one" {1}s one word with blanks in it, Enter {1}s nothing: '.format(command.capitalize(), command)
+            reply = self.asked(prompt % (len(parts), in_words(parts, "and", 6), "A comma is a part of its word. " * ("," in text)))
         for word in {"one": [text], "y": parts, "yes": parts}.get(reply.lower(), []):
             self.ask(command + " " + word)
         if self.bench.last_words and reply.lower() in ("y", "yes"):
@@ -177,7 +180,7 @@ class Terminal(Replies):
         if reply.lower() not in ("", "n", "no", "one", "y", "yes"):
             what = "Nothing was %sed" % command.rstrip("e")
             is_command = reply.partition(" ")[0] in COMMANDS
-            self.screen.say(what + "." if is_command else "%s: %s is no answer to this." % (what, words.in_quotes(reply, True)))
+            self.screen.say(what + "." if is_command else "%s: %s is no answer to this." % (what, layout.in_quotes(reply, True)))
             # (the question was not seen, perhaps)
             self.editor.pending[:0] = [reply] * is_command
 
@@ -386,7 +389,6 @@ class Terminal(Replies):
             return self.answer(line)
         except Dropped:
             self.editor.pending.clear()
-            return not self.bench.is_waiting
         except Broken:
             self.editor.is_interrupted = False
             self.screen.say("It was broken off.")
