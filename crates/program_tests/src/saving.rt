@@ -87,30 +87,30 @@ fn state_of(alloc: Global, folder: &MemoryFolder) -> Result<String, AllocError> 
 }
 
 /// Takes steps. Returns their results, and what the folder has then.
-fn seen(alloc: Global, folder: &mut MemoryFolder, names: &str) -> Result<String, AllocError> {
+fn take_steps(alloc: Global, folder: &mut MemoryFolder, names: &str) -> Result<String, AllocError> {
     let results = steps(alloc, folder, names)?;
     let state = state_of(alloc, folder)?;
     format!(in alloc; "{results}|{state}")
 }
 
-/// Returns what a row shows.
-fn shown(alloc: Global, row: &str) -> Result<String, AllocError> {
+/// Takes the steps of a row. Returns their results, and what the folder has then.
+fn take_row(alloc: Global, row: &str) -> Result<String, AllocError> {
     let target = match field(row, 0) {
         "old" => Some(OLD.to_vec(alloc)?),
         _ => None,
     };
     let mut folder = MemoryFolder::new(alloc, target, number(row, 1) as u32)?;
-    let shown = seen(alloc, &mut folder, field(row, 2));
+    let text = take_steps(alloc, &mut folder, field(row, 2));
     drop(folder);
-    shown
+    text
 }
 
 /// The rows of replacements.
 struct Replacements;
 
 impl Shows for Replacements {
-    fn shown(alloc: Global, _script: &str, row: &str) -> Result<String, Fail> {
-        Ok(shown(alloc, row)?)
+    fn text_of(alloc: Global, _script: &str, row: &str) -> Result<String, Fail> {
+        Ok(take_row(alloc, row)?)
     }
 }
 

@@ -91,7 +91,7 @@ pub fn is_as_row(rt: &impl Abort, row: &str, from: usize, shown: &str) {
 /// What a test shows of a row of its table.
 pub trait Shows {
     /// Returns the text of a row with its script.
-    fn shown(alloc: Global, script: &str, row: &str) -> Result<String, Fail>;
+    fn text_of(alloc: Global, script: &str, row: &str) -> Result<String, Fail>;
 }
 
 /// Asserts what is shown of each row of a text, which has scripts as `with_scripts` has them: what is wanted begins at the field with
@@ -103,7 +103,7 @@ pub fn all_show<S: Shows>(
     from: usize,
 ) -> Result<(), Fail> {
     for (script, row) in with_scripts(alloc, rows)? {
-        let shown = S::shown(alloc, script, row)?;
+        let shown = S::text_of(alloc, script, row)?;
         is_as_row(rt, row, from, shown.as_str());
     }
     Ok(())

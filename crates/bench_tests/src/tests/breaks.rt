@@ -3,8 +3,7 @@
 use crate::tests::bench::words_in;
 use sbl_bench::{Bench, BreakOff, EditFault};
 use sbl_script::Part;
-use std::alloc::{AllocError, Global};
-use std::test::Fail;
+use std::alloc::Global;
 use test_support::with_line_feeds;
 
 /// Says that an edit should be broken off before the run after so many.
@@ -56,36 +55,31 @@ fn make_edit(
     bench: &mut Bench,
     edit: &str,
     break_off: &mut BreakAfter,
-) -> Result<Result<(), EditFault>, AllocError> {
+) -> Result<(), EditFault> {
     let (verb, rest) = edit.split_once(' ').unwrap_or((edit, ""));
-    Ok(match verb {
+    match verb {
         "among" => {
             let text = rest.strip_prefix("tail 1 ").unwrap_or("");
             bench.replace_or_break(Part::Among("tail", 1), text, break_off)
         }
         "limit" => bench.set_limit_or_break(rest.parse().unwrap_or(0), break_off),
-        "words" => bench.replace_words_or_break(words_in(alloc, rest)?.as_slice(), break_off),
-        _ => {
-            let text = with_line_feeds(alloc, edit)?;
-            bench.replace_script_or_break(text.as_str().as_bytes(), break_off)
-        }
-    })
+        "words" => bench.replace_words_or_break(&words_in(alloc, rest)?, break_off),
+        _ => bench.replace_script_or_break(with_line_feeds(alloc, edit)?.as_bytes(), break_off),
+    }
 }
 
-/// Makes an edit of a bench, or breaks it off after so many runs: `2 limit 1`. It says that it is broken off exactly if it should be.
+/// Makes an edit of a bench, or breaks it off after so many runs: `2 limit 1`. Returns also whether it says that it is broken off exactly
+/// if that was wanted.
 pub(crate) fn break_edit(
     alloc: Global,
     bench: &mut Bench,
     edit: &str,
-) -> Result<Result<(), EditFault>, Fail> {
+) -> (Result<(), EditFault>, bool) {
     let (runs, edit) = edit.split_once(' ').unwrap_or((edit, ""));
     let mut break_off = BreakAfter {
         runs: runs.parse().unwrap_or(0),
         said: false,
     };
-    let made = make_edit(alloc, bench, edit, &mut break_off)?;
-    if break_off.said != (made == Err(EditFault::BrokenOff)) {
-        return Err(Fail::new("a break that was not said"));
-    }
-    Ok(made)
+    let made = make_edit(alloc, bench, edit, &mut break_off);
+    (made, break_off.said == (made == Err(EditFault::BrokenOff)))
 }

@@ -35,47 +35,53 @@ routine stem $x = 1 / 0||ab 65 Divide;|ab 64 Integer;ab 65 Divide;|2
 routine stem $x = 2 / 0||ab 65 Divide;||3",
 ];
 
-/// The letter `a` so many times.
-fn letters_a(alloc: Global, count: &str) -> Result<Vec<char>, AllocError> {
-    letters(
-        alloc,
-        "a".repeat(alloc, number(count, 0) as usize)?.as_str(),
-    )
+/// Adds a word, or removes it.
+fn change_word(alloc: Global, bench: &mut Bench, verb: &str, word: &str) -> Result<(), EditFault> {
+    let word = letters(alloc, word)?;
+    if verb == "add" {
+        bench.add(&word)
+    } else {
+        bench.remove(&word)
+    }
 }
 
-/// Makes an edit of a bench.
-fn make_edit(
-    alloc: Global,
-    bench: &mut Bench,
-    edit: &str,
-) -> Result<Result<(), EditFault>, AllocError> {
+/// Replaces an among: its number and its text.
+fn replace_among(bench: &mut Bench, name: &str, rest: &str) -> Result<(), EditFault> {
+    let (k, text) = rest.split_once(' ').unwrap_or((rest, ""));
+    bench.replace_among(name, k.parse().unwrap_or(0), text)
+}
+
+/// Makes an edit of a bench. `add_a 3` adds the word `aaa`.
+fn make_edit(alloc: Global, bench: &mut Bench, edit: &str) -> Result<(), EditFault> {
     let (verb, rest) = edit.split_once(' ').unwrap_or((edit, ""));
     let (name, text) = rest.split_once(' ').unwrap_or((rest, ""));
-    Ok(match verb {
-        "add" => bench.add(letters(alloc, rest)?.as_slice()),
-        "add_a" => bench.add(letters_a(alloc, rest)?.as_slice()),
-        "remove" => bench.remove(letters(alloc, rest)?.as_slice()),
-        "words" => bench.replace_words(words_in(alloc, rest)?.as_slice()),
-        "routine" => bench.replace_routine(name, text),
-        "among" => {
-            let (k, text) = text.split_once(' ').unwrap_or((text, ""));
-            bench.replace_among(name, k.parse().unwrap_or(0), text)
+    match verb {
+        "add" | "remove" => change_word(alloc, bench, verb, rest),
+        "add_a" => {
+            let word = "a".repeat(alloc, number(rest, 0) as usize)?;
+            change_word(alloc, bench, "add", word.as_str())
         }
+        "words" => bench.replace_words(&words_in(alloc, rest)?),
+        "routine" => bench.replace_routine(name, text),
+        "among" => replace_among(bench, name, text),
         "grouping" => bench.replace_grouping(name, text),
         "limit" => bench.set_limit(rest.parse().unwrap_or(0)),
-        _ => bench.replace_script(with_line_feeds(alloc, rest)?.as_str().as_bytes()),
-    })
+        _ => bench.replace_script(with_line_feeds(alloc, rest)?.as_bytes()),
+    }
 }
 
 /// Makes an edit of a bench. Returns why it is refused, if it is.
-fn fault_of(alloc: Global, bench: &mut Bench, edit: &str) -> Result<String, Fail> {
-    let made = match edit.strip_prefix("break ") {
-        Some(edit) => break_edit(alloc, bench, edit)?,
-        None => make_edit(alloc, bench, edit)?,
+fn fault_of(alloc: Global, bench: &mut Bench, edit: &str) -> Result<String, AllocError> {
+    let (made, agrees) = match edit.strip_prefix("break ") {
+        Some(edit) => break_edit(alloc, bench, edit),
+        None => (make_edit(alloc, bench, edit), true),
     };
+    if !agrees {
+        return String::from_str(alloc, "a break that was not said");
+    }
     match made {
         Ok(()) => Ok(String::new(alloc)),
-        Err(fault) => Ok(format!(in alloc; "{fault}")?),
+        Err(fault) => format!(in alloc; "{fault}"),
     }
 }
 

@@ -3,7 +3,7 @@
 use crate::tests::bench::bench_of;
 use sbl_bench::Bench;
 use sbl_machine::Item;
-use std::alloc::Global;
+use std::alloc::{AllocError, Global};
 use std::process::Abort;
 use std::test::Fail;
 use test_support::letters;
@@ -37,7 +37,7 @@ grouping c 'a' + a||xa xa;xz xz;ea ;|?|9",
 ];
 
 /// Whether a word touches the external and these groupings of the two, and nothing else.
-fn touches(alloc: Global, bench: &Bench, word: &str, v: bool, w: bool) -> Result<bool, Fail> {
+fn touches(alloc: Global, bench: &Bench, word: &str, v: bool, w: bool) -> Result<bool, AllocError> {
     let word = letters(alloc, word)?;
     let Some(items) = bench.touched(word.as_slice())? else {
         return Ok(false);

@@ -8,8 +8,8 @@ use crate::tests::control::CONTROL;
 use crate::tests::slices::{SLICES, STEMS};
 use crate::tests::touched::touches;
 use crate::tests::whys::does;
-use sbl_machine::{AmongSearch, LinkedTable, Machine, Meter, Outcome, PlainTable};
-use sbl_script::Script;
+use sbl_machine::{AmongSearch, LinkedTable, Machine, Meter, Outcome, PlainTable, RunStop};
+use sbl_script::{Script, ScriptFault};
 use std::alloc::{AllocError, Global};
 use std::process::Abort;
 use std::test::Fail;
@@ -26,7 +26,7 @@ pub(crate) fn machine_of<S: AmongSearch>(
 }
 
 /// The machine of a text. The name of a script is a text, too.
-fn machine_named<S: AmongSearch>(alloc: Global, text: &str) -> Result<Machine<S>, Fail> {
+fn machine_named<S: AmongSearch>(alloc: Global, text: &str) -> Result<Machine<S>, ScriptFault> {
     let text = if text == "PLURALS" { PLURALS } else { text };
     let text = with_line_feeds(alloc, text)?;
     let script = Script::parse(alloc, text.as_bytes(), "stem")?;
@@ -65,7 +65,7 @@ fn runs<S: AmongSearch>(
     meter: &mut Meter,
     word: &[char],
     limit: u32,
-) -> Result<(String, bool), Fail>
+) -> Result<(String, bool), RunStop>
     requires { length word.now ≤ max_word_length }
 {
     let ran = machine.run(alloc, meter, word, limit)?;
@@ -91,7 +91,7 @@ pub(crate) fn answer<S: AmongSearch>(
     word: &[char],
     limit: u32,
     asked: Asked,
-) -> Result<(String, bool), Fail>
+) -> Result<(String, bool), RunStop>
     requires { length word.now ≤ max_word_length }
 {
     let mut meter = Meter::new();

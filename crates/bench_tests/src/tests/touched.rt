@@ -4,7 +4,7 @@ ghost use Rattle.std.specs.Prelude.{◌≤◌, length};
 ghost use Rattle.sbl_semantics.specs.Limit.{max_word_length};
 
 use crate::tests::runs::{Asked, ask};
-use sbl_machine::{AmongSearch, Item, Machine, Meter, Table, Touch};
+use sbl_machine::{AmongSearch, Item, Machine, Meter, RunStop, Table, Touch};
 use std::alloc::Global;
 use std::collections::BTreeSet;
 use std::test::Fail;
@@ -15,7 +15,7 @@ fn are_items<S: AmongSearch>(
     machine: &Machine<S>,
     touches: &[Touch],
     mut items: BTreeSet<Item>,
-) -> Result<bool, Fail> {
+) -> Result<bool, RunStop> {
     let is_same = machine.items(alloc, touches)? == items;
     items.retain(|item| !machine.is_among_touches(touches, item));
     let other = Item::Routine(String::from_str(alloc, "nowhere")?);
@@ -31,7 +31,7 @@ pub(crate) fn touches<S: AmongSearch>(
     word: &[char],
     limit: u32,
     meter: &mut Meter,
-) -> Result<(String, bool), Fail>
+) -> Result<(String, bool), RunStop>
     requires { length word.now ≤ max_word_length }
 {
     let ran = machine.run(alloc, meter, word, limit)?;

@@ -4,7 +4,7 @@ ghost use Rattle.std.specs.Prelude.{◌≤◌, length};
 ghost use Rattle.sbl_semantics.specs.Limit.{max_word_length};
 
 use crate::tests::runs::{Asked, answer, ask, machine_of, outcome_text, sign_of};
-use sbl_machine::{AmongSearch, Machine, Meter, Table};
+use sbl_machine::{AmongSearch, Machine, Meter, RunStop, Table};
 use sbl_script::Script;
 use std::alloc::Global;
 use std::test::Fail;
@@ -17,7 +17,7 @@ pub(crate) fn does<S: AmongSearch>(
     machine: &Machine<S>,
     word: &[char],
     limit: u32,
-) -> Result<(String, bool), Fail>
+) -> Result<(String, bool), RunStop>
     requires { length word.now ≤ max_word_length }
 {
     let why = machine.why(alloc, word, limit)?;
