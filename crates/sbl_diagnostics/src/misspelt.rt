@@ -66,7 +66,8 @@ fn can_follow(
     part: Option<Part<'_>>,
     kind: Kind,
 ) -> bool {
-    let Some(word) = next_kind(&mut Lexer::new(alloc, word)) else {
+    let mut lexer = Lexer::new(alloc, word);
+    let Some(word) = next_kind(&mut lexer) else {
         return false;
     };
     match outlook_after(draft, alloc, tokens, part) {
