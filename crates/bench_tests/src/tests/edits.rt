@@ -161,8 +161,14 @@ fn a_limit_runs_what_used_more_than_the_smaller_one(rt: HostRuntime) -> Result<(
 
 #[test]
 fn a_whole_script_runs_what_met_the_items_that_differ(rt: HostRuntime) -> Result<(), Fail> {
-    for scripts in [SCRIPTS, TOO_LONG] {
-        tries(&rt, rt.alloc(), case_of(rt.alloc(), scripts)?.as_str())?;
-    }
+    let alloc = rt.alloc();
+    tries(&rt, alloc, case_of(alloc, SCRIPTS)?.as_str())?;
+    Ok(())
+}
+
+#[test]
+fn a_script_that_is_too_long_changes_nothing(rt: HostRuntime) -> Result<(), Fail> {
+    let alloc = rt.alloc();
+    tries(&rt, alloc, case_of(alloc, TOO_LONG)?.as_str())?;
     Ok(())
 }
