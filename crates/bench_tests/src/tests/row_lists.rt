@@ -1,7 +1,7 @@
 //! Rows, lists of words, and the texts of reports.
 
 use sbl_machine::{Outcome, RunFault};
-use sbl_reports::{Record, records_text};
+use sbl_records::{Record, records_text};
 use sbl_rows::Row;
 use std::alloc::{AllocError, Global};
 use std::test::Fail;
