@@ -2,8 +2,9 @@
 
 use sbl_saving::{Failed, Find, Folder, MemoryFolder, replace_file};
 use std::alloc::{AllocError, Global};
+use std::process::Abort;
 use std::test::Fail;
-use test_support::{Shows, all_show, field, number};
+use test_support::{field, is_as_row, number};
 
 const OLD: &[u8] = b"old";
 
@@ -105,16 +106,16 @@ fn take_row(alloc: Global, row: &str) -> Result<String, AllocError> {
     text
 }
 
-/// The rows of replacements.
-struct Replacements;
-
-impl Shows for Replacements {
-    fn text_of(alloc: Global, _script: &str, row: &str) -> Result<String, Fail> {
-        Ok(take_row(alloc, row)?)
+/// Asserts that each row comes about.
+fn take_rows(rt: &impl Abort, alloc: Global) -> Result<(), Fail> {
+    for row in ROWS.split('\n') {
+        let text = take_row(alloc, row)?;
+        assert!(rt; is_as_row(row, 3, text.as_str()), "{row}: {text}");
     }
+    Ok(())
 }
 
 #[test]
 fn a_replaced_file_has_its_old_text_or_its_new_one(rt: HostRuntime) -> Result<(), Fail> {
-    all_show::<Replacements>(&rt, rt.alloc(), ROWS, 3)
+    take_rows(&rt, rt.alloc())
 }

@@ -8,6 +8,5 @@ mod tables;
 pub use devices::{Pieces, SameBytes, WriteLog, bytes_of, in_pieces, outputs_within};
 pub use scripts::{PLURALS, PORTER, PREFIXES, SCRIPT_PREFIX, discard};
 pub use tables::{
-    Shows, all_show, field, fits, is_as_row, letters, number, print_values, text_of,
-    with_line_feeds, with_scripts,
+    field, fits, is_as_row, letters, number, print_values, text_of, with_line_feeds, with_scripts,
 };

@@ -33,7 +33,7 @@ fn are_shown(rt: &impl Abort, alloc: Global, asked: Asked, rows: &str) -> Result
             Asked::Families => families_of(alloc, one, other)?,
             Asked::Largest => largest_of(alloc, one, other)?,
         };
-        is_as_row(rt, row, 3, shown.as_str());
+        assert!(rt; is_as_row(row, 3, shown.as_str()), "{row}: {shown}");
     }
     Ok(())
 }

@@ -117,7 +117,7 @@ fn edits_one(rt: &impl Abort, alloc: Global, bench: &mut Bench, row: &str) -> Re
     let fault = fault_of(alloc, bench, field(row, 0))?;
     assert!(rt; fault.as_str() == field(row, 1), "{row}: {fault}");
     let state = state_of(alloc, bench, number(row, 4) != 0)?;
-    is_as_row(rt, row, 2, state.as_str());
+    assert!(rt; is_as_row(row, 2, state.as_str()), "{row}: {state}");
     Ok(())
 }
 

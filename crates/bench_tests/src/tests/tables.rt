@@ -57,7 +57,8 @@ fn ask_tables<S: AmongSearch>(rt: &impl Abort, alloc: Global) -> Result<(), Fail
         let table: S = table_of(alloc, row)?;
         let shown = finds(alloc, &table, row);
         drop(table);
-        is_as_row(rt, row, 5, shown?.as_str());
+        let shown = shown?;
+        assert!(rt; is_as_row(row, 5, shown.as_str()), "{row}: {shown}");
     }
     Ok(())
 }
