@@ -1,13 +1,11 @@
 //! The place of a fault in a block that was typed.
 
-use crate::draft::Draft;
-use crate::places::{
-    Heading, Title, fault_of, fault_text, offset_of_byte, push_title, script_fault_text,
-};
-use crate::sites::{Faulty, tokens_of};
+use crate::characters::cut;
+use crate::places::{Title, fault_of, fault_text, offset_of_byte, push_title, script_fault_text};
+use crate::sentences::Faulty;
 use sbl_script::{EditFault, Part, Script, ScriptFault};
 use sbl_source_map::{cut_at_part, offset_in_block};
-use sbl_text::{Kind, Lexer, Word};
+use sbl_text::{Kind, Lexer, Token, Word, tokens};
 use std::alloc::{AllocError, Global};
 
 /// A block that was refused, and what was in force then.
@@ -25,33 +23,53 @@ pub struct TypedBlock<'a> {
     pub source: Option<(&'a str, usize)>,
 }
 
-/// Returns where the next token ends if it is this word.
-fn end_of_next(lexer: &mut Lexer<'_>, word: &str) -> Option<usize> {
-    match lexer.next() {
-        Ok(Some(token)) if token.text == word => Some(token.end),
+/// Returns the command of an edit.
+fn title_of(alloc: Global, part: Part<'_>) -> Result<String, AllocError> {
+    match part {
+        Part::Routine(name) => format!(in alloc; "routine {}", cut(alloc, name)?),
+        Part::Among(name, k) => format!(in alloc; "among {} {k}", cut(alloc, name)?),
+        Part::Grouping(name) => format!(in alloc; "grouping {}", cut(alloc, name)?),
+    }
+}
+
+/// Returns where a token ends if it is this word.
+fn end_if(token: Option<&Token<'_>>, word: &str) -> Option<usize> {
+    match token {
+        Some(token) if token.text == word => Some(token.end),
         _ => None,
     }
 }
 
 /// Returns where a text begins after `define NAME as`, or after `define NAME` for a grouping; 0 if it does not begin so.
-fn head_end(alloc: Global, text: &str, part: Part<'_>) -> usize {
+fn head_end(tokens: &[Token<'_>], part: Part<'_>) -> usize {
     let (name, is_routine) = match part {
         Part::Routine(name) => (name, true),
         Part::Grouping(name) => (name, false),
         Part::Among(_, _) => return 0,
     };
-    let mut lexer = Lexer::new(alloc, text);
-    if end_of_next(&mut lexer, "define").is_none() {
+    if end_if(tokens.first(), "define").is_none() {
         return 0;
     }
-    let Some(end) = end_of_next(&mut lexer, name) else {
+    let Some(end) = end_if(tokens.get(1), name) else {
         return 0;
     };
-    if is_routine {
-        end_of_next(&mut lexer, "as").unwrap_or(0)
-    } else {
-        end
+    if !is_routine {
+        return end;
     }
+    end_if(tokens.get(2), "as").unwrap_or(0)
+}
+
+/// Returns the first three tokens of a text, up to one that is wrong.
+fn first_tokens(alloc: Global, text: &str) -> Result<Vec<Token<'_>>, AllocError> {
+    let mut found = Vec::new(alloc);
+    let mut lexer = Lexer::new(alloc, text);
+    for _ in 0..3u8 {
+        match lexer.next() {
+            Ok(Some(token)) => found.push(token)?,
+            _ => return Ok(found),
+        }
+    }
+    Ok(found)
 }
 
 /// Returns the fault with which an edit is refused, if it is refused.
@@ -65,9 +83,12 @@ fn edit_fault(alloc: Global, script: &Script, part: Part<'_>, text: &str) -> Opt
     }
 }
 
-/// Returns how many words `among` a text has; 0 if its tokens cannot be read.
+/// Returns how many words `among` a text has.
 fn among_count(alloc: Global, text: &[u8]) -> usize {
-    let Some(tokens) = tokens_of(alloc, text) else {
+    let Ok(text) = str::from_utf8(text) else {
+        return 0;
+    };
+    let Ok(tokens) = tokens(alloc, text) else {
         return 0;
     };
     let mut count: usize = 0;
@@ -79,6 +100,14 @@ fn among_count(alloc: Global, text: &[u8]) -> usize {
     count
 }
 
+/// Returns a number of amongs in words.
+fn amongs(alloc: Global, count: usize) -> Result<String, AllocError> {
+    if count == 1 {
+        return format!(in alloc; "1 among");
+    }
+    format!(in alloc; "{count} amongs")
+}
+
 /// Returns the line on a text that has another number of amongs than what it replaces.
 fn count_text(
     alloc: Global,
@@ -86,16 +115,15 @@ fn count_text(
     new: &[u8],
     old: &[u8],
 ) -> Result<String, AllocError> {
-    let mut draft = Draft::new(alloc);
-    let count = among_count(alloc, new);
-    push_title(&mut draft, alloc, title, None);
-    draft.put("the text has ");
-    draft.put_number(count);
-    draft.put(if count == 1 { " among" } else { " amongs" });
-    draft.put(", and the among that it replaces has ");
-    draft.put_number(among_count(alloc, old));
-    draft.put(", those inside it counted");
-    draft.finish()
+    let mut shown = String::new(alloc);
+    push_title(alloc, &mut shown, title, None)?;
+    let amongs = amongs(alloc, among_count(alloc, new))?;
+    let had = among_count(alloc, old);
+    let text = format!(in alloc;
+        "the text has {amongs}, and the among that it replaces has {had}, those inside it counted"
+    )?;
+    shown.push_str(text.as_str())?;
+    Ok(shown)
 }
 
 /// Returns the lines on the fault of an edit of a part of this script, if the edit has a fault. `rest` is the text of the part, and
@@ -122,17 +150,12 @@ fn fault_in_part<'x>(
     };
     let fault = match fault {
         EditFault::Script(fault) => fault,
-        EditFault::AmongCount => {
-            return count_text(alloc, title, typed.block, cut.part).map(Some);
-        }
+        EditFault::AmongCount => return Ok(Some(count_text(alloc, title, typed.block, cut.part)?)),
         _ => return Ok(None),
     };
     let begin = offset_in_block(alloc, cut.before, rest.as_bytes(), cut.after, fault)?;
-    let begin = match begin {
-        Some(offset) => Some(offset.saturating_add(skipped)),
-        None => None,
-    };
-    fault_text(title, faulty_of(alloc, typed, part, fault), begin).map(Some)
+    let begin = begin.map(|offset| offset.saturating_add(skipped));
+    Ok(Some(fault_text(title, faulty_of(alloc, typed, part, fault), begin)?))
 }
 
 /// Returns the block as a text with this fault.
@@ -159,17 +182,18 @@ pub fn part_text<'x>(
     typed: TypedBlock<'x>,
     part: Part<'x>,
 ) -> Result<Option<String>, AllocError> {
+    let title = title_of(alloc, part)?;
     let title = Title {
-        heading: Heading::Part(part),
+        title: title.as_str(),
         source: typed.source,
     };
     let Ok(text) = str::from_utf8(typed.block) else {
         let faulty = faulty_of(alloc, typed, part, ScriptFault::NotUtf8);
         let begin = offset_of_byte(typed.block);
-        return fault_text(title, faulty, begin).map(Some);
+        return Ok(Some(fault_text(title, faulty, begin)?));
     };
     let skipped = if typed.takes_heads {
-        head_end(alloc, text, part)
+        head_end(&first_tokens(alloc, text)?, part)
     } else {
         0
     };

@@ -303,6 +303,33 @@ pub fn push_named(shown: &mut String, text: &str) -> Result<(), AllocError> {
     Ok(())
 }
 
+/// How many characters of a name or a literal are in a sentence (our own choice), and how many of them begin and end a longer one.
+const LONGEST: usize = 60;
+
+const KEPT: usize = 29;
+
+/// Appends a name or a literal as `push_named` does; of a long one `..` stands for the middle.
+pub(crate) fn push_cut(shown: &mut String, name: &str) -> Result<(), AllocError> {
+    let count = name.chars().count();
+    let mut before: usize = 0;
+    for character in name.chars() {
+        if count <= LONGEST || before < KEPT || before.saturating_add(KEPT) >= count {
+            push_named_character(shown, character)?;
+        } else if before == KEPT {
+            shown.push_str("..")?;
+        }
+        before = before.saturating_add(1);
+    }
+    Ok(())
+}
+
+/// Returns what `push_cut` appends.
+pub(crate) fn cut(alloc: Global, name: &str) -> Result<String, AllocError> {
+    let mut shown = String::new(alloc);
+    push_cut(&mut shown, name)?;
+    Ok(shown)
+}
+
 /// Appends a character, or its number if a terminal obeys it.
 pub(crate) fn push_named_character(shown: &mut String, character: char) -> Result<(), AllocError> {
     if !is_in(&HIDDEN, character) {
@@ -312,10 +339,18 @@ pub(crate) fn push_named_character(shown: &mut String, character: char) -> Resul
 }
 
 /// Appends the number of a character.
-pub(crate) fn push_code(shown: &mut String, character: char) -> Result<(), AllocError> {
+fn push_code(shown: &mut String, character: char) -> Result<(), AllocError> {
     shown.push_str("<U+")?;
     push_hexadecimal(shown, u32::from(character), 4_096)?;
     shown.push('>')
+}
+
+/// Appends a character that begins no token; if it is a joiner, which nobody sees, its number.
+pub(crate) fn push_alone(shown: &mut String, character: char) -> Result<(), AllocError> {
+    match character {
+        '\u{200C}' | '\u{200D}' => push_code(shown, character),
+        _ => push_named_character(shown, character),
+    }
 }
 
 /// Returns the text with `?` for each character that a terminal obeys. Returns `AllocError` if an allocation fails.

@@ -1,12 +1,11 @@
 //! A fault after a comment that has another one inside it, since comments do not nest, or in a comment that begins as in other languages.
 
-use crate::draft::Draft;
 use crate::grammar::outlook_after;
-use crate::sentences::open_in;
-use crate::sites::{Site, is_blank, tokens_of};
-use sbl_source_map::{ScriptFault, position_of};
+use crate::sentences::{Place, is_blank, open_in, tokens_before};
+use crate::sites::push_besides;
+use sbl_source_map::{Position, ScriptFault, position_of};
 use sbl_text::{Kind, Lexer, Sign, Token};
-use std::alloc::Global;
+use std::alloc::{AllocError, Global};
 
 /// Returns where the last comment begins that has `/*` inside it, in a text that has comments and white space alone.
 fn nested_in(text: &[u8]) -> Option<usize> {
@@ -84,23 +83,28 @@ fn is_of_comment(fault: ScriptFault) -> bool {
 
 /// Appends that the place is after the end of a comment that has another one inside it, if that is so and a `*/` is left over, or that
 /// a `*/` ends no comment. Returns whether it did.
-pub(crate) fn push_nested(draft: &mut Draft, site: &Site<'_>) -> bool {
-    let (faulty, offset) = (site.faulty, site.spot.begin);
-    let rest = faulty.rest_from(offset);
-    if !is_of_comment(faulty.fault) || !has_end(rest) || !site.is_read {
-        return false;
+pub(crate) fn push_nested(shown: &mut String, place: Place<'_>) -> Result<bool, AllocError> {
+    let Place { faulty, spot } = place;
+    let rest = faulty.text.get(spot.begin..).unwrap_or(&[]);
+    if !is_of_comment(faulty.fault) || !has_end(rest) {
+        return Ok(false);
     }
-    if let Some(begin) = nested_before(faulty.text, &site.before, offset) {
-        draft.put("comments do not nest: the one that begins at ");
-        draft.put_position(position_of(faulty.text, begin));
-        draft.put(" ends at its first */, before this");
-        return true;
-    }
-    let ends_none = rest.starts_with(b"*/");
-    if ends_none {
-        draft.put("this */ ends no comment: take it away, or put /* before it");
-    }
-    ends_none
+    let Some(tokens) = tokens_before(faulty.alloc, faulty.text, spot.begin) else {
+        return Ok(false);
+    };
+    let Some(begin) = nested_before(faulty.text, &tokens, spot.begin) else {
+        if !rest.starts_with(b"*/") {
+            return Ok(false);
+        }
+        shown.push_str("this */ ends no comment: take it away, or put /* before it")?;
+        return Ok(true);
+    };
+    let Position { line, column } = position_of(faulty.text, begin);
+    let text = format!(in faulty.alloc;
+        "comments do not nest: the one that begins at {line}:{column} ends at its first */, before this"
+    )?;
+    shown.push_str(text.as_str())?;
+    Ok(true)
 }
 
 /// Returns where the line of an offset begins.
@@ -116,66 +120,52 @@ fn line_start(text: &[u8], offset: usize) -> usize {
     start
 }
 
-/// A sign, and where it starts and ends.
-#[derive(Clone, Copy)]
-struct PlacedSign {
-    sign: Sign,
-    start: usize,
-    end: usize,
-}
-
-/// Returns the next token if it is a sign.
-fn next_sign(lexer: &mut Lexer<'_>) -> Option<PlacedSign> {
-    match lexer.next() {
-        Ok(Some(token)) => match token.kind {
-            Kind::Sign(sign) => Some(PlacedSign {
-                sign,
-                start: token.start,
-                end: token.end,
-            }),
-            _ => None,
-        },
-        _ => None,
-    }
-}
-
 /// Returns the first sign of a text if it may be meant to begin a comment: `/`, or `-` with another one after it.
 fn first_sign(alloc: Global, text: &[u8]) -> Option<Sign> {
-    let mut lexer = Lexer::new(alloc, str::from_utf8(text).unwrap_or(""));
-    let first = next_sign(&mut lexer)?;
-    if first.sign == Sign::Slash {
+    let Ok(text) = str::from_utf8(text) else {
+        return None;
+    };
+    let mut lexer = Lexer::new(alloc, text);
+    let Ok(Some(first)) = lexer.next() else {
+        return None;
+    };
+    if first.kind == Kind::Sign(Sign::Slash) {
         return Some(Sign::Slash);
     }
-    let second = next_sign(&mut lexer)?;
-    let is_pair = second.sign == Sign::Minus && second.start == first.end;
-    if is_pair && first.sign == Sign::Minus {
+    let Ok(Some(second)) = lexer.next() else {
+        return None;
+    };
+    let is_pair = second.kind == first.kind && second.start == first.end;
+    if is_pair && first.kind == Kind::Sign(Sign::Minus) {
         return Some(Sign::Minus);
     }
     None
 }
 
 /// Returns whether the line of a place begins with a sign of a comment of other languages that cannot come there.
-fn is_comment_meant(draft: &mut Draft, site: &Site<'_>) -> bool {
-    let (faulty, spot) = (site.faulty, site.spot);
+fn is_comment_meant(place: Place<'_>) -> Result<bool, AllocError> {
+    let Place { faulty, spot } = place;
     let start = line_start(faulty.text, spot.begin);
     if spot.token == ";" {
-        return is_blank(between(faulty.text, start, spot.begin));
+        return Ok(is_blank(between(faulty.text, start, spot.begin)));
     }
-    let Some(sign) = first_sign(faulty.alloc, faulty.rest_from(start)) else {
-        return false;
+    let rest = faulty.text.get(start..).unwrap_or(&[]);
+    let Some(sign) = first_sign(faulty.alloc, rest) else {
+        return Ok(false);
     };
-    let Some(before) = tokens_of(faulty.alloc, faulty.prefix_before(start)) else {
-        return false;
+    let Some(before) = tokens_before(faulty.alloc, faulty.text, start) else {
+        return Ok(false);
     };
-    match outlook_after(draft, faulty.alloc, &before, faulty.part) {
-        Some(outlook) => !outlook.takes(Kind::Sign(sign)),
-        None => open_in(&before).is_none(),
+    match outlook_after(faulty.alloc, &before, faulty.part)? {
+        Some(outlook) => Ok(!outlook.takes(Kind::Sign(sign))),
+        None => Ok(open_in(faulty.alloc, &before)?.is_none()),
     }
 }
 
 /// Appends how a comment begins if the line of a place begins as a comment of other languages.
-pub(crate) fn push_comment(draft: &mut Draft, site: &Site<'_>) {
-    if is_of_comment(site.faulty.fault) && is_comment_meant(draft, site) {
-        draft.put_besides("A comment begins with //");
+pub(crate) fn push_comment(shown: &mut String, place: Place<'_>) -> Result<(), AllocError> {
+    if is_of_comment(place.faulty.fault) && is_comment_meant(place)? {
+        return push_besides(shown, "A comment begins with //");
     }
+    Ok(())
 }

@@ -1,43 +1,46 @@
 //! What can come in a construct of the language that a place is in, in a sentence.
 
-use crate::declarations::declaration_of;
-use crate::draft::Draft;
+use crate::characters::cut;
+use crate::declarations::{DeclaredName, declaration_of, declared_in};
 use crate::foreign::advice_on;
 use crate::grammar::{Outlook, Symbol, is_constant};
-use crate::sites::{Site, next_kind};
+use crate::sites::{Site, push_advice, push_text};
 use sbl_source_map::begins_item;
 use sbl_text::{Kind, Lexer, Sign, Token, Word};
+use std::alloc::{AllocError, Global};
 
 /// What a name is.
 pub(crate) const NAMES: &str = "A name is an ASCII letter, and then ASCII letters, digits and _.";
 
-/// Where routines in backward mode are defined.
-const BACKWARD: &str = "Routines in backward mode are defined in backwardmode ( .. ).";
-
 /// Appends how numbers are compared, if a word for a number is at a place of commands.
-pub(crate) fn push_number(draft: &mut Draft, site: &Site<'_>) -> bool {
+pub(crate) fn push_number(shown: &mut String, site: Site<'_>) -> Result<bool, AllocError> {
+    let token = site.spot.token;
     match site.spot.kind {
-        Some(Kind::Word(word)) if is_constant(word) => draft.advise_on(
-            "Numbers are compared in $( .. ), as in $( % > 2 ).",
-            &[site.spot.token],
-        ),
-        Some(Kind::Word(Word::LenOf)) => {
-            draft.advise("Numbers are compared in $( .. ), as in $( lenof s > 2 ).")
+        Some(Kind::Word(word)) if is_constant(word) => {
+            push_text(
+                shown,
+                format!(in site.faulty.alloc;
+                    "Numbers are compared in $( .. ), as in $( {token} > 2 )."
+                )?,
+            )
         }
-        _ => false,
+        Some(Kind::Word(Word::LenOf)) => {
+            push_advice(
+                shown,
+                "Numbers are compared in $( .. ), as in $( lenof s > 2 ).",
+            )
+        }
+        _ => Ok(false),
     }
 }
 
-/// Appends how a boolean is set.
-fn push_setting(draft: &mut Draft, name: &str) -> bool {
-    draft.advise_on(
-        "set % makes % true, unset % makes it false.",
-        &[name, name, name],
-    )
+/// Returns how a boolean is set.
+fn setting_of(alloc: Global, name: &str) -> Result<String, AllocError> {
+    format!(in alloc; "set {name} makes {name} true, unset {name} makes it false.")
 }
 
 /// Returns whether `=` is at the place, and `true` or `false` after it.
-fn sets_truth(site: &Site<'_>) -> bool {
+fn sets_truth(site: Site<'_>) -> bool {
     match site.next_kinds() {
         (Some(next), _) => site.operator() == Some(Sign::Equals) && is_truth(next),
         _ => false,
@@ -50,119 +53,162 @@ fn is_truth(kind: Kind) -> bool {
 }
 
 /// Appends how a boolean is set if `true` or `false` is at the place, and `=` and a name are before it.
-pub(crate) fn push_truth(draft: &mut Draft, site: &Site<'_>) -> bool {
+pub(crate) fn push_truth(shown: &mut String, site: Site<'_>) -> Result<bool, AllocError> {
     let (Some(prior), Some(kind)) = (site.prior, site.spot.kind) else {
-        return false;
+        return Ok(false);
     };
-    let follows_equals = site.last_kind() == Some(Kind::Sign(Sign::Equals));
-    prior.kind == Kind::Name && follows_equals && is_truth(kind) && push_setting(draft, prior.text)
-}
-
-/// Returns the word that declares what a name before a sign is, or most likely is to be.
-fn operand_kind(site: &Site<'_>, name: &str) -> Word {
-    match declaration_of(&site.declared, name) {
-        Some(word) => word,
-        None if sets_truth(site) => Word::Booleans,
-        None => Word::Integers,
+    if prior.kind != Kind::Name
+        || site.last_kind() != Some(Kind::Sign(Sign::Equals))
+        || !is_truth(kind)
+    {
+        return Ok(false);
     }
+    let name = cut(site.faulty.alloc, prior.text)?;
+    push_text(shown, setting_of(site.faulty.alloc, name.as_str())?)
 }
 
 /// Appends how the name before a sign is set or compared.
-pub(crate) fn push_operator(draft: &mut Draft, site: &Site<'_>, role: Option<Symbol>) -> bool {
-    let (Some(name), Some(sign)) = (site.last_of(Kind::Name), site.operator()) else {
-        return false;
+pub(crate) fn push_operator(
+    shown: &mut String,
+    site: Site<'_>,
+    role: Option<Symbol>,
+    declared: &[DeclaredName<'_>],
+) -> Result<bool, AllocError> {
+    let (Some(last), Some(sign)) = (site.last, site.operator()) else {
+        return Ok(false);
     };
-    let before = match role {
-        Some(Symbol::Name) => site.prior_kind(),
-        _ => None,
+    let (name, sign_text) = (last.text, sign.text());
+    if last.kind != Kind::Name {
+        return Ok(false);
+    }
+    let word = match site.prior {
+        Some(prior) if role == Some(Symbol::Name) => prior.kind,
+        _ => last.kind,
+    };
+    let kind = match declaration_of(declared, name) {
+        Some(declared) => declared.word,
+        None if sets_truth(site) => Word::Booleans,
+        None => Word::Integers,
     };
     let is_command = match role {
         Some(symbol) => symbol.has_command(),
         None => false,
     };
-    match (before, operand_kind(site, name)) {
-        (Some(Kind::Word(Word::Set | Word::Unset)), _) => push_setting(draft, name),
-        (Some(Kind::Word(Word::SetMark)), _) => draft.advise_on(
-            "setmark % sets % to the cursor, $% = .. to another number.",
-            &[name, name, name],
-        ),
-        (_, Word::Booleans) if is_command => push_setting(draft, name),
-        (_, Word::Integers) if is_command => draft.advise_on(
-            "Before the name of an integer comes $: $% % ..",
-            &[name, sign.text()],
-        ),
-        _ => false,
-    }
+    let name = cut(site.faulty.alloc, name)?;
+    let sentence = match word {
+        Kind::Word(Word::Set | Word::Unset) => setting_of(site.faulty.alloc, name.as_str())?,
+        _ if is_command && kind == Word::Booleans => setting_of(site.faulty.alloc, name.as_str())?,
+        Kind::Word(Word::SetMark) => format!(in site.faulty.alloc;
+            "setmark {name} sets {name} to the cursor, ${name} = .. to another number."
+        )?,
+        _ if is_command && kind == Word::Integers => {
+            format!(in site.faulty.alloc;
+                "Before the name of an integer comes $: ${name} {sign_text} .."
+            )?
+        }
+        _ => return Ok(false),
+    };
+    push_advice(shown, sentence.as_str())
 }
 
 /// Returns whether `<=` or `=` is at the place, and a literal after it.
-fn is_arrow_meant(site: &Site<'_>) -> bool {
+fn is_arrow_meant(site: Site<'_>) -> bool {
     let (next, _) = site.next_kinds();
     matches!(site.operator(), Some(Sign::AtMost | Sign::Equals)) && next == Some(Kind::Literal)
 }
 
 /// Appends what comes in parentheses of commands.
-pub(crate) fn push_rows(draft: &mut Draft, site: &Site<'_>, outlook: &Outlook) -> bool {
+pub(crate) fn push_rows(
+    shown: &mut String,
+    site: Site<'_>,
+    outlook: &Outlook,
+) -> Result<bool, AllocError> {
     if is_arrow_meant(site) {
-        return draft.advise("Did you mean <-?");
+        return push_advice(shown, "Did you mean <-?");
     }
     if site.operator().is_some() {
-        return false;
+        return Ok(false);
     }
-    push_foreign(draft, site) || push_number(draft, site) || push_command(draft, site, outlook)
-}
-
-/// Appends what is wrong with a token at a place of commands.
-fn push_command(draft: &mut Draft, site: &Site<'_>, outlook: &Outlook) -> bool {
-    let is_first = !outlook.offers(Symbol::Joiners);
+    if push_foreign(shown, site)? {
+        return Ok(true);
+    }
+    if push_number(shown, site)? {
+        return Ok(true);
+    }
     if site.is_at(Word::For) {
-        draft.advise("for comes after setlimit: setlimit C for D.")
-    } else if site.is_at(Word::As) {
-        draft.advise("as comes after define and a name.")
-    } else if is_first && site.is_at_joiner() {
-        draft.advise_on("Before % comes a command.", &[site.spot.token])
-    } else if is_first {
-        draft.advise("After ( comes a command or ).")
-    } else {
-        draft.advise("Commands follow each other (C D) or are joined (C or D, C and D).")
+        return push_advice(shown, "for comes after setlimit: setlimit C for D.");
     }
+    if site.is_at(Word::As) {
+        return push_advice(shown, "as comes after define and a name.");
+    }
+    if !outlook.offers(Symbol::Joiners) {
+        if site.is_at_joiner() {
+            let word = site.spot.token;
+            return push_text(
+                shown,
+                format!(in site.faulty.alloc; "Before {word} comes a command.")?,
+            );
+        }
+        return push_advice(shown, "After ( comes a command or ).");
+    }
+    push_advice(
+        shown,
+        "Commands follow each other (C D) or are joined (C or D, C and D).",
+    )
 }
 
 /// Appends what comes in the parentheses of a declaration.
-pub(crate) fn push_names(draft: &mut Draft, site: &Site<'_>) -> bool {
+pub(crate) fn push_names(shown: &mut String, site: Site<'_>) -> Result<bool, AllocError> {
     match site.spot.kind {
-        Some(Kind::Word(_)) => draft.advise_on(
-            "% is a reserved word: take another name.",
-            &[site.spot.token],
-        ),
-        Some(Kind::Number | Kind::Sign(Sign::Minus)) => draft.advise(NAMES),
-        _ => draft.advise("Names come here, and then )."),
+        Some(Kind::Word(_)) => {
+            let word = site.spot.token;
+            push_text(
+                shown,
+                format!(in site.faulty.alloc; "{word} is a reserved word: take another name.")?,
+            )
+        }
+        Some(Kind::Number | Kind::Sign(Sign::Minus)) => push_advice(shown, NAMES),
+        _ => push_advice(shown, "Names come here, and then )."),
     }
 }
 
 /// Appends what comes in parentheses of an expression.
-pub(crate) fn push_sums(draft: &mut Draft, site: &Site<'_>) -> bool {
-    let word = site.spot.token;
+pub(crate) fn push_sums(shown: &mut String, site: Site<'_>) -> Result<bool, AllocError> {
     if site.is_at_joiner() {
-        draft.advise_on("% joins commands: $( a > b ) % $( c > d ).", &[word, word])
-    } else {
-        draft.advise("Here comes +, -, *, / or ).")
+        let word = site.spot.token;
+        return push_text(
+            shown,
+            format!(in site.faulty.alloc; "{word} joins commands: $( a > b ) {word} $( c > d ).")?,
+        );
     }
+    push_advice(shown, "Here comes +, -, *, / or ).")
 }
 
 /// Appends that a `define` is missing before the token at the place, if `as` follows it.
-fn push_missing_define(draft: &mut Draft, site: &Site<'_>) -> bool {
-    let mut lexer = Lexer::new(site.faulty.alloc, site.rest());
-    let name = match lexer.next() {
-        Ok(Some(token)) if token.kind == Kind::Name => token.text,
-        _ => return false,
+pub(crate) fn push_missing_define(shown: &mut String, site: Site<'_>) -> Result<bool, AllocError> {
+    let rest = site.faulty.text.get(site.spot.begin..).unwrap_or(&[]);
+    let Ok(rest) = str::from_utf8(rest) else {
+        return Ok(false);
     };
-    next_kind(&mut lexer) == Some(Kind::Word(Word::As))
-        && draft.advise_on("Before % define is missing.", &[name])
+    let mut lexer = Lexer::new(site.faulty.alloc, rest);
+    let Ok(Some(name)) = lexer.next() else {
+        return Ok(false);
+    };
+    let Ok(Some(next)) = lexer.next() else {
+        return Ok(false);
+    };
+    if name.kind != Kind::Name || next.kind != Kind::Word(Word::As) {
+        return Ok(false);
+    }
+    let name = cut(site.faulty.alloc, name.text)?;
+    push_text(
+        shown,
+        format!(in site.faulty.alloc; "Before {name} define is missing.")?,
+    )
 }
 
 /// Returns whether after the token at the place comes `(`, and then a word that begins an item.
-fn holds_items(site: &Site<'_>) -> bool {
+fn holds_items(site: Site<'_>) -> bool {
     let (next, second) = site.next_kinds();
     next == Some(Kind::Sign(Sign::Open)) && is_item(second)
 }
@@ -173,65 +219,85 @@ pub(crate) fn is_item(kind: Option<Kind>) -> bool {
 }
 
 /// Appends which of `backwards` and `backwardmode` is meant if the other one, or `backward`, is at the place. Returns whether it did.
-pub(crate) fn push_mode(draft: &mut Draft, site: &Site<'_>, outlook: &Outlook) -> bool {
+pub(crate) fn push_mode(
+    shown: &mut String,
+    site: Site<'_>,
+    outlook: &Outlook,
+) -> Result<bool, AllocError> {
     let has_items = holds_items(site);
     let is_backwards = site.is_at(Word::Backwards) || site.spot.token == "backward";
     if is_backwards && has_items && outlook.offers(Symbol::Items) {
-        return draft.advise(BACKWARD);
+        return push_advice(
+            shown,
+            "Routines in backward mode are defined in backwardmode ( .. ).",
+        );
     }
-    site.is_at(Word::BackwardMode)
-        && !has_items
-        && outlook.takes(Kind::Word(Word::Backwards))
-        && draft.advise(
+    if site.is_at(Word::BackwardMode) && !has_items && outlook.takes(Kind::Word(Word::Backwards)) {
+        return push_advice(
+            shown,
             "Definitions are in backwardmode ( .. ); before a command comes backwards, as in backwards r.",
-        )
+        );
+    }
+    Ok(false)
 }
 
 /// Appends what comes among the items of a script.
-pub(crate) fn push_items(draft: &mut Draft, site: &Site<'_>) -> bool {
-    if push_missing_define(draft, site) {
-        return true;
+pub(crate) fn push_items(shown: &mut String, site: Site<'_>) -> Result<bool, AllocError> {
+    if push_missing_define(shown, site)? {
+        return Ok(true);
     }
     if site.is_at(Word::Backwards) {
-        return draft.advise(BACKWARD);
+        return push_advice(
+            shown,
+            "Routines in backward mode are defined in backwardmode ( .. ).",
+        );
     }
-    match site.last_of(Kind::Inserts) {
-        Some(characters) => draft.advise_on(
-            "stringescapes takes the two characters after it, here %.",
-            &[characters],
-        ),
-        None => {
-            draft.advise("Here comes a declaration or a definition, such as define r as ( .. ).")
-        }
-    }
+    let Some(characters) = site.last_of(Kind::Inserts) else {
+        return push_advice(
+            shown,
+            "Here comes a declaration or a definition, such as define r as ( .. ).",
+        );
+    };
+    push_text(
+        shown,
+        format!(in site.faulty.alloc;
+            "stringescapes takes the two characters after it, here {characters}."
+        )?,
+    )
 }
 
 /// Appends what comes after a term of a grouping.
-pub(crate) fn push_terms(draft: &mut Draft, site: &Site<'_>) -> bool {
-    let is_part = site.faulty.part.is_some();
-    if is_part && !matches!(site.spot.kind, Some(Kind::Literal | Kind::Name)) {
-        return false;
+pub(crate) fn push_terms(
+    shown: &mut String,
+    site: Site<'_>,
+    tokens: &[Token<'_>],
+    declared: &[DeclaredName<'_>],
+) -> Result<bool, AllocError> {
+    if site.faulty.part.is_some() && !matches!(site.spot.kind, Some(Kind::Literal | Kind::Name)) {
+        return Ok(false);
     }
-    if !is_part && push_missing_define(draft, site) {
-        return true;
+    if site.faulty.part.is_none() && push_missing_define(shown, site)? {
+        return Ok(true);
     }
-    let name = last_definition(&site.before).name;
-    match declaration_of(&site.declared, name) {
-        Some(Word::Routines | Word::Externals) => push_form(draft, Word::Routines, name),
-        _ => draft.advise("Between the terms of a grouping comes + or -."),
+    match declaration_of(declared, last_definition(tokens).name) {
+        Some(name) if matches!(name.word, Word::Routines | Word::Externals) => {
+            return push_form(site.faulty.alloc, shown, name);
+        }
+        _ => {}
     }
+    push_advice(shown, "Between the terms of a grouping comes + or -.")
 }
 
 /// The last definition that some tokens have.
 #[derive(Clone, Copy)]
-struct Definition<'a> {
+pub(crate) struct Definition<'a> {
     name: &'a str,
     /// Whether a parenthesis begins its body, and the last token closes it.
     is_closed: bool,
 }
 
 /// Returns the last definition in these tokens, as that of a routine.
-fn last_definition<'a>(tokens: &[Token<'a>]) -> Definition<'a> {
+pub(crate) fn last_definition<'a>(tokens: &[Token<'a>]) -> Definition<'a> {
     let mut name = "";
     let mut place: usize = 0;
     let mut depth: usize = 0;
@@ -260,55 +326,65 @@ fn last_definition<'a>(tokens: &[Token<'a>]) -> Definition<'a> {
 }
 
 /// Appends what comes after the body of a routine.
-pub(crate) fn push_body(draft: &mut Draft, site: &Site<'_>) -> bool {
-    if push_foreign(draft, site) {
-        return true;
+pub(crate) fn push_body(
+    shown: &mut String,
+    site: Site<'_>,
+    definition: Definition<'_>,
+) -> Result<bool, AllocError> {
+    if push_foreign(shown, site)? {
+        return Ok(true);
     }
     if site.faulty.part.is_some() || site.operator().is_some() {
-        return false;
+        return Ok(false);
     }
-    push_missing_define(draft, site) || push_command_after_body(draft, site)
-}
-
-/// Appends why a token cannot come after the body of a routine.
-fn push_command_after_body(draft: &mut Draft, site: &Site<'_>) -> bool {
-    let Definition { name, is_closed } = last_definition(&site.before);
-    if !site.has_command() {
-        draft.advise(
-            "The body of a routine is one command, or several with or or and between them.",
-        )
+    if push_missing_define(shown, site)? {
+        return Ok(true);
+    }
+    let Definition { name, is_closed } = definition;
+    let name = cut(site.faulty.alloc, name)?;
+    let sentence = if !site.has_command() {
+        format!(in site.faulty.alloc;
+            "The body of a routine is one command, or several with or or and between them."
+        )?
     } else if is_closed {
-        draft.advise_on("The body of % ends at the ) before this.", &[name])
+        format!(in site.faulty.alloc; "The body of {name} ends at the ) before this.")?
     } else {
-        draft.advise_on(
-            "The body of a routine is one command: put several in parentheses, define % as ( .. ).",
-            &[name],
-        )
-    }
+        format!(in site.faulty.alloc;
+            "The body of a routine is one command: put several in parentheses, define {name} as ( .. )."
+        )?
+    };
+    push_advice(shown, sentence.as_str())
 }
 
 /// Appends what to write for the name before the place, if it is a word of other languages and not declared.
-fn push_foreign(draft: &mut Draft, site: &Site<'_>) -> bool {
+fn push_foreign(shown: &mut String, site: Site<'_>) -> Result<bool, AllocError> {
     let Some(last) = site.last else {
-        return false;
+        return Ok(false);
     };
-    match advice_on(&site.script, last.text) {
-        Some(advice) if declaration_of(&site.declared, last.text).is_none() => draft.advise(advice),
-        _ => false,
+    let declared = declared_in(site.faulty.alloc, site.faulty.script)?;
+    match advice_on(site.faulty.alloc, site.faulty.script, last.text) {
+        Some(advice) if declaration_of(&declared, last.text).is_none() => {
+            push_advice(shown, advice)
+        }
+        _ => Ok(false),
     }
 }
 
-/// Appends how a name is defined that this word declares.
-pub(crate) fn push_form(draft: &mut Draft, word: Word, name: &str) -> bool {
-    match word {
-        Word::Groupings => draft.advise_on(
-            "The definition of a grouping has no as: define % 'a' + 'b'.",
-            &[name],
-        ),
-        Word::Routines | Word::Externals => draft.advise_on(
-            "The definition of a routine has as: define % as ( .. ).",
-            &[name],
-        ),
-        _ => draft.advise("Only routines, externals and groupings are defined."),
-    }
+/// Appends how a name of this kind is defined.
+pub(crate) fn push_form(
+    alloc: Global,
+    shown: &mut String,
+    declared: DeclaredName<'_>,
+) -> Result<bool, AllocError> {
+    let name = cut(alloc, declared.name)?;
+    let sentence = match declared.word {
+        Word::Groupings => {
+            format!(in alloc; "The definition of a grouping has no as: define {name} 'a' + 'b'.")?
+        }
+        Word::Routines | Word::Externals => {
+            format!(in alloc; "The definition of a routine has as: define {name} as ( .. ).")?
+        }
+        _ => format!(in alloc; "Only routines, externals and groupings are defined.")?,
+    };
+    push_advice(shown, sentence.as_str())
 }

@@ -1,13 +1,14 @@
 //! Faults of names whose definition is missing, comes too late or is in the other mode.
 
-use crate::declarations::declaration_of;
-use crate::draft::Draft;
-use crate::sites::Site;
+use crate::characters::{cut, push_cut};
+use crate::declarations::{declaration_of, declared_in};
+use crate::sentences::{Faulty, Place, tokens_of};
 use sbl_script::Part;
 use sbl_text::{Kind, Sign, Token, Word};
+use std::alloc::{AllocError, Global};
 
 /// In which mode a script defines a name.
-#[derive(Clone, Copy)]
+#[derive(Clone, Copy, PartialEq, Eq)]
 enum Definition {
     /// Outside of `backwardmode`.
     Forward,
@@ -48,6 +49,11 @@ fn definition_in(tokens: &[Token<'_>], name: &str) -> Option<Definition> {
     found
 }
 
+/// Returns the definition of this name in a script, if there is one and the tokens of the script can be read.
+fn definition_of(alloc: Global, script: &[u8], name: &str) -> Option<Definition> {
+    definition_in(&tokens_of(alloc, script), name)
+}
+
 /// Returns the name whose definition is the last that begins in these tokens, if one does.
 fn last_defined<'a>(tokens: &[Token<'a>]) -> Option<&'a str> {
     let mut name = None;
@@ -62,31 +68,33 @@ fn last_defined<'a>(tokens: &[Token<'a>]) -> Option<&'a str> {
 }
 
 /// Returns whether the place of a fault is inside the definition of the name that is there.
-fn is_in_itself(site: &Site<'_>) -> bool {
-    match site.faulty.part {
-        Some(Part::Grouping(name)) => name == site.spot.token,
+fn is_in_itself(place: Place<'_>) -> bool {
+    let Place { faulty, spot } = place;
+    match faulty.part {
+        Some(Part::Grouping(name)) => name == spot.token,
         Some(_) => false,
-        None => last_defined(&site.before) == Some(site.spot.token),
+        None => last_defined(&place.tokens_before()) == Some(spot.token),
     }
 }
 
 /// Appends that a name has no definition, or has none that counts at this place, and what to do.
-pub(crate) fn push_undefined(draft: &mut Draft, site: &Site<'_>) {
-    let name = site.spot.token;
-    if is_in_itself(site) {
-        return draft.put(" cannot be part of its own definition");
+pub(crate) fn push_undefined(shown: &mut String, place: Place<'_>) -> Result<(), AllocError> {
+    let Place { faulty, spot } = place;
+    if is_in_itself(place) {
+        return shown.push_str(" cannot be part of its own definition");
     }
-    if definition_in(&site.script, name).is_some() {
-        return draft.put(
+    if definition_of(faulty.alloc, faulty.script, spot.token).is_some() {
+        return shown.push_str(
             " is defined after this grouping: a grouping can use only those that are defined before it",
         );
     }
-    draft.put(" is declared, but not defined: add define ");
-    draft.put_cut(name);
-    draft.put(match declaration_of(&site.declared, name) {
-        Some(Word::Groupings) => " '..'",
+    shown.push_str(" is declared, but not defined: add define ")?;
+    push_cut(shown, spot.token)?;
+    let declared = declared_in(faulty.alloc, faulty.script)?;
+    shown.push_str(match declaration_of(&declared, spot.token) {
+        Some(declaration) if declaration.word == Word::Groupings => " '..'",
         _ => " as ..",
-    });
+    })
 }
 
 /// Returns whether these tokens end with `define`, a name, and terms with the signs after them, if there are terms.
@@ -105,11 +113,12 @@ fn end_in_terms(tokens: &[Token<'_>]) -> bool {
 }
 
 /// Returns whether a name at this place is one of the terms of a grouping, so that it may be meant as characters.
-pub(crate) fn is_at_terms(site: &Site<'_>) -> bool {
-    match site.faulty.part {
+pub(crate) fn is_at_terms(place: Place<'_>) -> bool {
+    let Place { faulty, spot } = place;
+    match faulty.part {
         Some(Part::Grouping(_)) => true,
         Some(_) => false,
-        None => end_in_terms(&site.before),
+        None => end_in_terms(&place.tokens_before()),
     }
 }
 
@@ -135,44 +144,41 @@ fn follows_backwards(tokens: &[Token<'_>]) -> bool {
 }
 
 /// Appends that a name is used in another mode than it is defined in, and what to do.
-pub(crate) fn push_wrong_mode(draft: &mut Draft, site: &Site<'_>) {
-    match definition_in(&site.script, site.spot.token) {
-        Some(Definition::Forward) => draft.put(
+pub(crate) fn push_wrong_mode(shown: &mut String, place: Place<'_>) -> Result<(), AllocError> {
+    let Place { faulty, spot } = place;
+    let before = place.tokens_before();
+    let is_condition = matches!(before.last(), Some(token) if token.kind == Kind::Literal);
+    match definition_of(faulty.alloc, faulty.script, spot.token) {
+        Some(Definition::Forward) => shown.push_str(
             " is defined in forward mode, but used in backward mode: move its define into backwardmode. If forward mode uses it, too, define another one there",
         ),
-        Some(Definition::Backward) => {
-            draft.put(" is defined in backward mode, but used in forward mode: ");
-            push_way_back(draft, site);
+        Some(Definition::Backward) if is_condition => {
+            shown.push_str(
+                " is defined in backward mode, but used in forward mode: outside of backwardmode define a routine as backwards ",
+            )?;
+            push_cut(shown, spot.token)?;
+            shown.push_str(", and name that one here")
         }
-        None => draft.put(" is defined in another mode than it is used in"),
-    }
-}
-
-/// Appends what to do with a use in forward mode of a name that is defined in backward mode.
-fn push_way_back(draft: &mut Draft, site: &Site<'_>) {
-    if site.last_kind() == Some(Kind::Literal) {
-        draft.fill(
-            "outside of backwardmode define a routine as backwards %, and name that one here",
-            &[site.spot.token],
-        );
-    } else if follows_backwards(&site.before) {
-        draft.put(
-            "the backwards before this runs one command. To run several, write backwards ( .. )",
-        );
-    } else {
-        draft.put(
-            "write backwards before it. If it is to run forwards, move its define out of backwardmode",
-        );
+        Some(Definition::Backward) if follows_backwards(&before) => shown.push_str(
+            " is defined in backward mode, but used in forward mode: the backwards before this runs one command. To run several, write backwards ( .. )",
+        ),
+        Some(Definition::Backward) => shown.push_str(
+            " is defined in backward mode, but used in forward mode: write backwards before it. If it is to run forwards, move its define out of backwardmode",
+        ),
+        None => shown.push_str(" is defined in another mode than it is used in"),
     }
 }
 
 /// Appends that an external is declared, but has no definition that a run can begin with, and what to do.
-pub(crate) fn push_no_definition(draft: &mut Draft, script: &[Token<'_>], external: &str) {
-    let form = match definition_in(script, external) {
-        Some(Definition::Backward) => {
-            "% is defined in backward mode, but a run begins in forward mode: outside of backwardmode write define % as backwards ( .. )"
-        }
-        _ => "% is declared in externals, but not defined: add define % as ..",
+pub(crate) fn push_no_definition(shown: &mut String, faulty: Faulty<'_>) -> Result<(), AllocError> {
+    let wanted = cut(faulty.alloc, faulty.external)?;
+    let text = match definition_of(faulty.alloc, faulty.script, faulty.external) {
+        Some(Definition::Backward) => format!(in faulty.alloc;
+            "{wanted} is defined in backward mode, but a run begins in forward mode: outside of backwardmode write define {wanted} as backwards ( .. )"
+        )?,
+        _ => format!(in faulty.alloc;
+            "{wanted} is declared in externals, but not defined: add define {wanted} as .."
+        )?,
     };
-    draft.fill(form, &[external, external]);
+    shown.push_str(text.as_str())
 }

@@ -1,15 +1,26 @@
 //! Parentheses at the begin of an among that may be meant to hold one of its strings.
 
-use crate::draft::Draft;
-use crate::sites::{Site, next_kind};
+use crate::characters::push_cut;
+use crate::sentences::Place;
+use crate::sites::push_besides;
 use sbl_text::{Kind, Lexer, Sign, Word};
-use std::alloc::Global;
+use std::alloc::{AllocError, Global};
+
+/// Returns whether the next token is an opening parenthesis.
+fn opens(lexer: &mut Lexer<'_>) -> bool {
+    match lexer.next() {
+        Ok(Some(token)) => token.kind == Kind::Sign(Sign::Open),
+        _ => false,
+    }
+}
 
 /// Returns the literal that two opening parentheses at the begin of a text have after them, if they do.
 fn enclosed_literal(alloc: Global, text: &[u8]) -> Option<&str> {
-    let mut lexer = Lexer::new(alloc, str::from_utf8(text).unwrap_or(""));
-    let open = Some(Kind::Sign(Sign::Open));
-    if next_kind(&mut lexer) != open || next_kind(&mut lexer) != open {
+    let Ok(text) = str::from_utf8(text) else {
+        return None;
+    };
+    let mut lexer = Lexer::new(alloc, text);
+    if !opens(&mut lexer) || !opens(&mut lexer) {
         return None;
     }
     match lexer.next() {
@@ -20,19 +31,25 @@ fn enclosed_literal(alloc: Global, text: &[u8]) -> Option<&str> {
 
 /// Appends what to do if the first literal of an among is one of its strings, and it is in parentheses. The parenthesis of the among
 /// is at this offset.
-pub(crate) fn push_enclosed(draft: &mut Draft, site: &Site<'_>, open: usize) {
-    let rest = site.faulty.rest_from(open);
-    if let Some(literal) = enclosed_literal(site.faulty.alloc, rest) {
-        draft.put_besides("If ");
-        draft.put_cut(literal);
-        draft.put(" is one of its strings, take the parentheses around it away");
-    }
+pub(crate) fn push_enclosed(
+    shown: &mut String,
+    place: Place<'_>,
+    open: usize,
+) -> Result<(), AllocError> {
+    let rest = place.faulty.text.get(open..).unwrap_or(&[]);
+    let Some(literal) = enclosed_literal(place.faulty.alloc, rest) else {
+        return Ok(());
+    };
+    push_besides(shown, "If ")?;
+    push_cut(shown, literal)?;
+    shown.push_str(" is one of its strings, take the parentheses around it away")
 }
 
 /// Appends the same if the place is an among.
-pub(crate) fn push_enclosed_in(draft: &mut Draft, site: &Site<'_>) {
-    if site.is_at(Word::Among) {
-        let open = site.spot.begin.saturating_add(site.spot.token.len());
-        push_enclosed(draft, site, open);
+pub(crate) fn push_enclosed_in(shown: &mut String, place: Place<'_>) -> Result<(), AllocError> {
+    let spot = place.spot;
+    if spot.kind != Some(Kind::Word(Word::Among)) {
+        return Ok(());
     }
+    push_enclosed(shown, place, spot.begin.saturating_add(spot.token.len()))
 }

@@ -1,6 +1,7 @@
 //! Texts that are not UTF-8: how they may be encoded, and how to make them UTF-8.
 
-use crate::draft::Draft;
+use crate::characters::push_named_character;
+use std::alloc::AllocError;
 
 /// How a text that is not UTF-8 may be encoded.
 enum Encoding {
@@ -19,14 +20,20 @@ fn encoding_of(text: &[u8]) -> Encoding {
 }
 
 /// Appends what the text may be, and how to make it UTF-8. `name` is the name of its file.
-pub(crate) fn push_conversion(draft: &mut Draft, text: &[u8], name: &str) {
-    draft.put(match encoding_of(text) {
-        Encoding::Gzip => "If gzip compressed it: gzip -d < ",
-        Encoding::Latin1 => "If it is Latin-1: iconv -f latin1 -t utf-8 ",
-        Encoding::Utf16 => "If it is UTF-16: iconv -f utf-16 -t utf-8 ",
-    });
-    push_in_shell(draft, name);
-    draft.put(" > NEW");
+pub(crate) fn push_conversion(
+    shown: &mut String,
+    text: &[u8],
+    name: &str,
+) -> Result<(), AllocError> {
+    let (guess, command) = match encoding_of(text) {
+        Encoding::Gzip => ("If gzip compressed it: ", "gzip -d < "),
+        Encoding::Latin1 => ("If it is Latin-1: ", "iconv -f latin1 -t utf-8 "),
+        Encoding::Utf16 => ("If it is UTF-16: ", "iconv -f utf-16 -t utf-8 "),
+    };
+    shown.push_str(guess)?;
+    shown.push_str(command)?;
+    push_in_shell(shown, name)?;
+    shown.push_str(" > NEW")
 }
 
 /// Returns whether no character of a name means anything to a shell.
@@ -44,18 +51,18 @@ fn is_plain_in_shell(name: &str) -> bool {
 }
 
 /// Appends the name of a file as a command of a shell has it.
-fn push_in_shell(draft: &mut Draft, name: &str) {
+fn push_in_shell(shown: &mut String, name: &str) -> Result<(), AllocError> {
     let quote = if is_plain_in_shell(name) { "" } else { "'" };
     if name.starts_with('-') {
-        draft.put("./");
+        shown.push_str("./")?;
     }
-    draft.put(quote);
+    shown.push_str(quote)?;
     for character in name.chars() {
         if character == '\'' {
-            draft.put("'\"'\"'");
+            shown.push_str("'\"'\"'")?;
         } else {
-            draft.push_named(character);
+            push_named_character(shown, character)?;
         }
     }
-    draft.put(quote);
+    shown.push_str(quote)
 }

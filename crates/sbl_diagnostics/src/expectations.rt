@@ -1,17 +1,18 @@
 //! What can come at a place, in a sentence for the author of a script.
 
+use crate::characters::cut;
 use crate::constructs::{
-    NAMES, is_item, push_body, push_form, push_items, push_mode, push_names, push_number,
-    push_operator, push_rows, push_sums, push_terms, push_truth,
+    NAMES, is_item, last_definition, push_body, push_form, push_items, push_mode, push_names,
+    push_number, push_operator, push_rows, push_sums, push_terms, push_truth,
 };
-use crate::declarations::declaration_of;
-use crate::draft::Draft;
+use crate::declarations::{DeclaredName, declaration_of, declared_in};
 use crate::enclosed::push_enclosed;
 use crate::grammar::{Outlook, Symbol, outlook_after};
-use crate::sentences::open_in;
-use crate::sites::Site;
+use crate::sentences::{Place, open_in};
+use crate::sites::{Site, push_advice, push_text};
 use sbl_source_map::begins_item;
-use sbl_text::{Kind, Sign, Word};
+use sbl_text::{Kind, Sign, Token, Word};
+use std::alloc::{AllocError, Global};
 
 /// What a grouping is defined by.
 const GROUPINGS: &str = "After the name of a grouping comes a literal or another grouping.";
@@ -50,213 +51,242 @@ fn what_follows(required: Symbol, last: Kind) -> Option<&'static str> {
 }
 
 /// Appends what comes after the token before the place.
-fn push_follower(draft: &mut Draft, site: &Site<'_>, required: Symbol) -> bool {
+fn push_follower(shown: &mut String, site: Site<'_>, required: Symbol) -> Result<bool, AllocError> {
     let Some(last) = site.last else {
-        return false;
+        return Ok(false);
     };
     let Some(what) = what_follows(required, last.kind) else {
-        return false;
+        return Ok(false);
     };
-    draft.put(". After ");
-    match site.prior {
-        Some(prior) if required == Symbol::Factor && last.kind == Kind::Sign(Sign::Open) => {
-            draft.fill("% (", &[prior.text]);
+    let after = cut(site.faulty.alloc, last.text)?;
+    let is_inside = required == Symbol::Factor && last.kind == Kind::Sign(Sign::Open);
+    let sentence = match (site.prior, site.spot.kind) {
+        (Some(prior), _) if is_inside => {
+            let before = cut(site.faulty.alloc, prior.text)?;
+            format!(in site.faulty.alloc; "After {before} ( comes {what}.")?
         }
-        _ => draft.put_cut(last.text),
-    }
-    draft.put(" comes ");
-    draft.put(what);
-    match site.spot.kind {
-        Some(Kind::Word(word)) if required == Symbol::Name && !begins_item(word) => {
-            draft.fill(", and % is a reserved word.", &[site.spot.token]);
+        (_, Some(Kind::Word(word))) if required == Symbol::Name && !begins_item(word) => {
+            let token = site.spot.token;
+            format!(in site.faulty.alloc;
+                "After {after} comes {what}, and {token} is a reserved word."
+            )?
         }
-        Some(Kind::Literal) if last.kind == Kind::Sign(Sign::Equals) => {
-            draft.put(". A string variable is set by ->, as in [ next ] -> w.");
+        (_, Some(Kind::Literal)) if last.kind == Kind::Sign(Sign::Equals) => {
+            format!(in site.faulty.alloc;
+                "After {after} comes {what}. A string variable is set by ->, as in [ next ] -> w."
+            )?
         }
-        _ => draft.put("."),
-    }
-    true
+        _ => format!(in site.faulty.alloc; "After {after} comes {what}.")?,
+    };
+    push_advice(shown, sentence.as_str())
 }
 
 /// Appends what comes after `define` and a name.
-fn push_definition(draft: &mut Draft, site: &Site<'_>) -> bool {
+fn push_definition(
+    shown: &mut String,
+    site: Site<'_>,
+    declared: &[DeclaredName<'_>],
+) -> Result<bool, AllocError> {
     let Some(last) = site.last else {
-        return false;
+        return Ok(false);
     };
-    let is_joined = last.end == site.spot.begin;
-    if is_joined && site.spot.kind == Some(Kind::Sign(Sign::Minus)) {
-        return draft.advise(NAMES);
+    if last.end == site.spot.begin && matches!(site.spot.kind, Some(Kind::Sign(Sign::Minus))) {
+        return push_advice(shown, NAMES);
     }
-    draft.advise(match declaration_of(&site.declared, last.text) {
-        Some(Word::Routines | Word::Externals) => {
+    let sentence = match declaration_of(declared, last.text) {
+        Some(name) if matches!(name.word, Word::Routines | Word::Externals) => {
             "After the name of a routine comes as: define r as ( .. )."
         }
-        Some(Word::Groupings) => GROUPINGS,
+        Some(name) if name.word == Word::Groupings => GROUPINGS,
         _ => "After the name comes as, for a routine, or a literal, for a grouping.",
-    })
+    };
+    push_advice(shown, sentence)
 }
 
 /// Appends what comes after the name of a macro, or after `hex` or `decimal`.
-fn push_macro(draft: &mut Draft, site: &Site<'_>) -> bool {
+fn push_macro(shown: &mut String, site: Site<'_>) -> Result<bool, AllocError> {
     match site.last_of(Kind::MacroName) {
-        Some(name) => draft.advise_on(
-            "After the name of the macro, %, comes a literal, or hex or decimal and a literal.",
-            &[name],
-        ),
-        None => push_follower(draft, site, Symbol::MacroLiteral),
-    }
-}
-
-/// Appends that a number is in the place of a command.
-fn push_loop(draft: &mut Draft, site: &Site<'_>) -> bool {
-    match site.last {
-        Some(last) => draft.advise_on(
-            "After % comes a command, after loop a number: loop 3 next.",
-            &[last.text],
-        ),
-        None => false,
-    }
-}
-
-/// Appends what comes where a command has to come.
-fn push_missing_command(draft: &mut Draft, site: &Site<'_>) -> bool {
-    if push_number(draft, site) {
-        true
-    } else if site.spot.kind == Some(Kind::Number) {
-        push_loop(draft, site)
-    } else {
-        push_follower(draft, site, Symbol::Command)
-    }
-}
-
-/// Appends what comes where a name has to come.
-fn push_missing_name(draft: &mut Draft, site: &Site<'_>) -> bool {
-    let follows_arrow = site.last_kind() == Some(Kind::Sign(Sign::Arrow));
-    if follows_arrow && site.spot.kind == Some(Kind::Literal) {
-        draft.advise_on(
-            "After -> comes the name of a string; <- % replaces the slice.",
-            &[site.spot.token],
-        )
-    } else {
-        push_follower(draft, site, Symbol::Name)
-    }
-}
-
-/// Returns what has to come if this symbol is required, if the symbol alone says it.
-fn required_text(required: Symbol) -> Option<&'static str> {
-    match required {
-        Symbol::LoopBody => Some("After the number of loop or atleast comes a command."),
-        Symbol::For => {
-            Some("After setlimit and one command comes for: setlimit tomark p1 for ( .. ).")
+        Some(name) => {
+            let name = cut(site.faulty.alloc, name)?;
+            push_text(
+                shown,
+                format!(in site.faulty.alloc;
+                    "After the name of the macro, {name}, comes a literal, or hex or decimal and a literal."
+                )?,
+            )
         }
-        Symbol::Operator => Some("After $ and a name comes a sign such as =, += or >."),
-        Symbol::Comparison => Some("Two numbers are compared here, as in $( a > b )."),
-        _ => None,
+        None => push_follower(shown, site, Symbol::MacroLiteral),
     }
+}
+
+/// Appends what comes after a word that has a number after it in place of a command.
+fn push_loop(shown: &mut String, site: Site<'_>) -> Result<bool, AllocError> {
+    let Some(last) = site.last else {
+        return Ok(false);
+    };
+    let after = cut(site.faulty.alloc, last.text)?;
+    push_text(
+        shown,
+        format!(in site.faulty.alloc;
+            "After {after} comes a command, after loop a number: loop 3 next."
+        )?,
+    )
+}
+
+/// Appends what comes after `->`.
+fn push_arrow(shown: &mut String, site: Site<'_>) -> Result<bool, AllocError> {
+    if site.spot.kind != Some(Kind::Literal) {
+        return push_follower(shown, site, Symbol::Name);
+    }
+    let literal = cut(site.faulty.alloc, site.spot.token)?;
+    push_text(
+        shown,
+        format!(in site.faulty.alloc;
+            "After -> comes the name of a string; <- {literal} replaces the slice."
+        )?,
+    )
 }
 
 /// Appends which symbol has to come.
-fn push_required(draft: &mut Draft, site: &Site<'_>, required: Symbol) -> bool {
+fn push_required(
+    shown: &mut String,
+    site: Site<'_>,
+    required: Symbol,
+    declared: &[DeclaredName<'_>],
+) -> Result<bool, AllocError> {
     match required {
-        Symbol::Command => push_missing_command(draft, site),
-        Symbol::Factor => push_truth(draft, site) || push_follower(draft, site, required),
-        Symbol::Comparison if site.operator() == Some(Sign::Equals) => {
-            draft.advise("= sets an integer, and == compares two.")
+        Symbol::Command if push_number(shown, site)? => Ok(true),
+        Symbol::Factor if push_truth(shown, site)? => Ok(true),
+        Symbol::Command if site.spot.kind == Some(Kind::Number) => push_loop(shown, site),
+        Symbol::LoopBody => {
+            push_advice(
+                shown,
+                "After the number of loop or atleast comes a command.",
+            )
         }
-        Symbol::Definition => push_definition(draft, site),
-        Symbol::MacroLiteral => push_macro(draft, site),
-        Symbol::Name => push_missing_name(draft, site),
-        _ => match required_text(required) {
-            Some(sentence) => draft.advise(sentence),
-            None => push_follower(draft, site, required),
-        },
+        Symbol::For => push_advice(
+            shown,
+            "After setlimit and one command comes for: setlimit tomark p1 for ( .. ).",
+        ),
+        Symbol::Operator => {
+            push_advice(shown, "After $ and a name comes a sign such as =, += or >.")
+        }
+        Symbol::Comparison if site.operator() == Some(Sign::Equals) => {
+            push_advice(shown, "= sets an integer, and == compares two.")
+        }
+        Symbol::Comparison => {
+            push_advice(shown, "Two numbers are compared here, as in $( a > b ).")
+        }
+        Symbol::Definition => push_definition(shown, site, declared),
+        Symbol::MacroLiteral => push_macro(shown, site),
+        Symbol::Name if site.last_kind() == Some(Kind::Sign(Sign::Arrow)) => {
+            push_arrow(shown, site)
+        }
+        _ => push_follower(shown, site, required),
     }
 }
 
 /// Appends what an among has. If a name is at the place, it says how letters are written, and else what to do if parentheses are
 /// around the first string.
-fn push_amongs(draft: &mut Draft, site: &Site<'_>) -> bool {
-    draft.advise(AMONGS);
-    if site.spot.kind == Some(Kind::Name) {
-        draft.fill(" If letters are meant: '%'.", &[site.spot.token]);
-    } else if let Some(open) = open_in(&site.before) {
-        push_enclosed(draft, site, open);
+fn push_amongs(
+    shown: &mut String,
+    site: Site<'_>,
+    tokens: &[Token<'_>],
+) -> Result<bool, AllocError> {
+    let Site { faulty, spot, .. } = site;
+    if spot.kind != Some(Kind::Name) {
+        push_advice(shown, AMONGS)?;
+        if let Some(open) = open_in(faulty.alloc, tokens)? {
+            push_enclosed(shown, Place { faulty, spot }, open)?;
+        }
+        return Ok(true);
     }
-    true
+    let name = cut(site.faulty.alloc, site.spot.token)?;
+    push_text(
+        shown,
+        format!(in site.faulty.alloc; "{AMONGS} If letters are meant: '{name}'.")?,
+    )
 }
 
 /// Appends what comes in the construct that the place is in.
-fn push_inside(draft: &mut Draft, site: &Site<'_>, outlook: &Outlook) -> bool {
+fn push_inside(
+    shown: &mut String,
+    site: Site<'_>,
+    outlook: &Outlook,
+    tokens: &[Token<'_>],
+    declared: &[DeclaredName<'_>],
+) -> Result<bool, AllocError> {
     if outlook.offers(Symbol::Names) {
-        push_names(draft, site)
+        push_names(shown, site)
     } else if outlook.offers(Symbol::Groups) || outlook.offers(Symbol::Entries) {
-        push_amongs(draft, site)
+        push_amongs(shown, site, tokens)
     } else if outlook.offers(Symbol::Rows) {
-        push_rows(draft, site, outlook)
+        push_rows(shown, site, outlook)
     } else if outlook.offers(Symbol::Joiners) {
-        push_body(draft, site)
+        push_body(shown, site, last_definition(tokens))
     } else if outlook.offers(Symbol::Terms) {
-        push_terms(draft, site)
+        push_terms(shown, site, tokens, declared)
     } else if outlook.offers(Symbol::Items) {
-        push_items(draft, site)
+        push_items(shown, site)
+    } else if outlook.offers(Symbol::Sums) {
+        push_sums(shown, site)
     } else {
-        outlook.offers(Symbol::Sums) && push_sums(draft, site)
+        Ok(false)
     }
 }
 
-/// Appends what can come after the tokens of this outlook. Returns whether it did.
-fn push_by_outlook(draft: &mut Draft, site: &Site<'_>, outlook: &Outlook) -> bool {
-    if push_operator(draft, site, outlook.role) || push_mode(draft, site, outlook) {
-        return true;
+/// Appends what can come at the place of a token that cannot come after these tokens, or at the end of the text. Returns whether it
+/// did: it does not if no sentence is sure to fit.
+pub(crate) fn push_expectation(
+    shown: &mut String,
+    site: Site<'_>,
+    tokens: &[Token<'_>],
+) -> Result<bool, AllocError> {
+    let Some(outlook) = outlook_after(site.faulty.alloc, tokens, site.faulty.part)? else {
+        return Ok(false);
+    };
+    let declared = declared_in(site.faulty.alloc, site.faulty.script)?;
+    if push_operator(shown, site, outlook.role, &declared)? || push_mode(shown, site, &outlook)? {
+        return Ok(true);
     }
     let is_over = is_item(site.spot.kind) || site.spot.token.is_empty();
     match outlook.first_required() {
-        Some(Symbol::Close) | None => !is_over && push_inside(draft, site, outlook),
-        Some(symbol) => push_required(draft, site, symbol),
+        Some(Symbol::Close) | None if is_over => Ok(false),
+        Some(Symbol::Close) | None => { push_inside(shown, site, &outlook, tokens, &declared) }
+        Some(symbol) => push_required(shown, site, symbol, &declared),
     }
 }
 
-/// Appends what can come at the place of a token that cannot come after those before it, or at the end of the text. Returns whether it
-/// did: it does not if no sentence is sure to fit.
-pub(crate) fn push_expectation(draft: &mut Draft, site: &Site<'_>) -> bool {
-    match outlook_after(draft, site.faulty.alloc, &site.before, site.faulty.part) {
-        Some(outlook) => push_by_outlook(draft, site, &outlook),
-        None => false,
-    }
-}
-
-/// Returns the symbol that a name at the place is the first token of, if one can come there.
-fn role_of_name(draft: &mut Draft, site: &Site<'_>) -> Option<Symbol> {
-    match outlook_after(draft, site.faulty.alloc, &site.before, site.faulty.part) {
-        Some(mut outlook) => {
-            if outlook.pass(draft, Kind::Name) {
-                outlook.role
-            } else {
-                None
-            }
-        }
-        None => None,
-    }
-}
-
-/// Appends what can come at the place of a name that this word declares as something else. Returns whether it did.
-pub(crate) fn push_use(draft: &mut Draft, site: &Site<'_>, declared: Word) -> bool {
-    let Some(role) = role_of_name(draft, site) else {
-        return false;
+/// Appends what can come at the place of a name that is declared as something else. Returns whether it did.
+pub(crate) fn push_use(
+    shown: &mut String,
+    site: Site<'_>,
+    tokens: &[Token<'_>],
+    declared: DeclaredName<'_>,
+) -> Result<bool, AllocError> {
+    let Some(mut outlook) = outlook_after(site.faulty.alloc, tokens, site.faulty.part)? else {
+        return Ok(false);
     };
-    let name = site.spot.token;
-    match role {
-        Symbol::Name if site.last_kind() == Some(Kind::Word(Word::Define)) => {
-            push_form(draft, declared, name)
+    if !outlook.pass(Kind::Name)? {
+        return Ok(false);
+    }
+    match outlook.role {
+        Some(Symbol::Name) if site.last_kind() == Some(Kind::Word(Word::Define)) => {
+            push_form(site.faulty.alloc, shown, declared)
         }
-        Symbol::Condition => {
-            draft.advise("After a string of an among comes a routine, as its condition.")
+        Some(Symbol::Condition) => push_advice(
+            shown,
+            "After a string of an among comes a routine, as its condition.",
+        ),
+        Some(Symbol::Definition) => push_advice(shown, GROUPINGS),
+        Some(role) if role.has_command() && declared.word == Word::Integers => {
+            let name = cut(site.faulty.alloc, site.spot.token)?;
+            push_text(
+                shown,
+                format!(in site.faulty.alloc; "An integer is no command, but ${name} > 0 is one.")?,
+            )
         }
-        Symbol::Definition => draft.advise(GROUPINGS),
-        _ if !role.has_command() => push_follower(draft, site, role),
-        _ => {
-            declared == Word::Integers
-                && draft.advise_on("An integer is no command, but $% > 0 is one.", &[name])
-        }
+        Some(role) if !role.has_command() => push_follower(shown, site, role),
+        _ => Ok(false),
     }
 }

@@ -1,6 +1,7 @@
 //! Words and characters of other languages, and parts of Snowball that are left out: what to write in a script.
 
-use sbl_text::{Kind, Token, Word};
+use sbl_text::{Kind, Word, tokens};
+use std::alloc::Global;
 
 /// Returns what to write in place of a part of Snowball that is left out.
 pub(crate) fn left_out_text(kind: Option<Kind>) -> &'static str {
@@ -33,10 +34,16 @@ fn foreign_word(name: &str) -> Option<&'static str> {
     }
 }
 
-/// Returns whether these tokens have `define` before this name.
-fn is_defined(tokens: &[Token<'_>], name: &str) -> bool {
+/// Returns whether a script has `define` before this name.
+fn is_defined(alloc: Global, script: &[u8], name: &str) -> bool {
+    let Ok(text) = str::from_utf8(script) else {
+        return false;
+    };
+    let Ok(tokens) = tokens(alloc, text) else {
+        return false;
+    };
     let mut follows = false;
-    for token in tokens {
+    for token in &tokens {
         if follows && token.text == name {
             return true;
         }
@@ -45,14 +52,13 @@ fn is_defined(tokens: &[Token<'_>], name: &str) -> bool {
     false
 }
 
-/// Returns what to write in place of a name that is not declared, if it is a word of other languages, and not defined in the script of
-/// these tokens.
-pub(crate) fn advice_on(script: &[Token<'_>], name: &str) -> Option<&'static str> {
-    if is_defined(script, name) {
-        None
-    } else {
-        foreign_word(name)
+/// Returns what to write in place of a name that is not declared, if it is a word of other languages, and not defined in the script.
+pub(crate) fn advice_on(alloc: Global, script: &[u8], name: &str) -> Option<&'static str> {
+    let advice = foreign_word(name)?;
+    if is_defined(alloc, script, name) {
+        return None;
     }
+    Some(advice)
 }
 
 /// Returns whether a character is beyond ASCII, and no blank, dash or quotation mark, and not invisible.

@@ -1,12 +1,11 @@
 //! What the grammar expects after some tokens: a stack of symbols, as docs/LANGUAGE.md has them.
 
-use crate::draft::Draft;
 use sbl_script::Part;
 use sbl_text::{Kind, Sign, Token, Word};
-use std::alloc::Global;
+use std::alloc::{AllocError, Global};
 
 /// A symbol of the grammar. From `Joiners` on they may be empty.
-#[derive(Clone, Copy, PartialEq, Eq)]
+#[derive(Clone, Copy, Debug, PartialEq, Eq)]
 pub(crate) enum Symbol {
     /// `(`
     Open,
@@ -308,14 +307,12 @@ fn more(symbol: Symbol) -> &'static [Symbol] {
     }
 }
 
-/// Returns what is expected at the beginning of a script, or of a part of one.
-fn first_symbols(part: Option<Part<'_>>) -> &'static [Symbol] {
-    match part {
-        None => &[Symbol::Items],
-        Some(Part::Routine(_)) => &[Symbol::Command, Symbol::Joiners],
-        Some(Part::Among(_, _)) => &[Symbol::Among],
-        Some(Part::Grouping(_)) => &[Symbol::Argument, Symbol::Terms],
+/// Puts symbols on a stack, so that the first one is its top.
+fn push_all(stack: &mut Vec<Symbol>, symbols: &[Symbol]) -> Result<(), AllocError> {
+    for symbol in symbols.iter().rev() {
+        stack.push(*symbol)?;
     }
+    Ok(())
 }
 
 /// What the grammar expects after some tokens.
@@ -328,42 +325,36 @@ pub(crate) struct Outlook {
 }
 
 impl Outlook {
-    /// Puts symbols on the stack, so that the first one is its top. If an allocation fails, the draft fails.
-    fn expect(&mut self, draft: &mut Draft, symbols: &[Symbol]) {
-        for symbol in symbols.iter().rev() {
-            if self.stack.push(*symbol).is_err() {
-                draft.fail();
-            }
-        }
+    /// Returns what is expected at the beginning of a script, or of a part of one.
+    fn new(alloc: Global, part: Option<Part<'_>>) -> Result<Outlook, AllocError> {
+        let symbols: &[Symbol] = match part {
+            None => &[Symbol::Items],
+            Some(Part::Routine(_)) => &[Symbol::Command, Symbol::Joiners],
+            Some(Part::Among(_, _)) => &[Symbol::Among],
+            Some(Part::Grouping(_)) => &[Symbol::Argument, Symbol::Terms],
+        };
+        let mut stack = Vec::new(alloc);
+        push_all(&mut stack, symbols)?;
+        Ok(Outlook { stack, role: None })
     }
 
-    /// Goes over a token, and returns whether it can come. If an allocation fails, the draft fails.
-    pub(crate) fn pass(&mut self, draft: &mut Draft, kind: Kind) -> bool {
+    /// Goes over a token, and returns whether it can come.
+    pub(crate) fn pass(&mut self, kind: Kind) -> Result<bool, AllocError> {
         for _ in 0..self.stack.len() {
             let Some(symbol) = self.stack.pop() else {
-                return false;
+                return Ok(false);
             };
             if let Some(symbols) = after(symbol, kind) {
-                self.expect(draft, more(symbol));
-                self.expect(draft, symbols);
+                push_all(&mut self.stack, more(symbol))?;
+                push_all(&mut self.stack, symbols)?;
                 self.role = Some(symbol);
-                return true;
+                return Ok(true);
             }
             if !symbol.is_optional() {
-                return false;
+                return Ok(false);
             }
         }
-        false
-    }
-
-    /// Goes over tokens, and returns whether they can come. If an allocation fails, the draft fails.
-    fn pass_all(&mut self, draft: &mut Draft, tokens: &[Token<'_>]) -> bool {
-        for token in tokens {
-            if !self.pass(draft, token.kind) {
-                return false;
-            }
-        }
-        true
+        Ok(false)
     }
 
     /// Returns whether the token can come next.
@@ -403,31 +394,22 @@ impl Outlook {
     }
 }
 
-/// Returns whether a text that begins with these tokens begins as a definition does.
-fn has_head(tokens: &[Token<'_>]) -> bool {
-    match tokens {
-        [first, ..] => first.kind == Kind::Word(Word::Define),
-        [] => false,
-    }
-}
-
 /// Returns what the grammar expects after these tokens of a script, or of a part of one; `None` if one of them cannot come. A part may
-/// begin as its definition does. If an allocation fails, the draft fails.
+/// begin as its definition does.
 pub(crate) fn outlook_after(
-    draft: &mut Draft,
     alloc: Global,
     tokens: &[Token<'_>],
     part: Option<Part<'_>>,
-) -> Option<Outlook> {
-    let mut outlook = Outlook {
-        stack: Vec::new(alloc),
-        role: None,
+) -> Result<Option<Outlook>, AllocError> {
+    let has_head = match tokens.first() {
+        Some(first) => first.kind == Kind::Word(Word::Define),
+        None => false,
     };
-    let part = if has_head(tokens) { None } else { part };
-    outlook.expect(draft, first_symbols(part));
-    if outlook.pass_all(draft, tokens) {
-        Some(outlook)
-    } else {
-        None
+    let mut outlook = Outlook::new(alloc, if has_head { None } else { part })?;
+    for token in tokens {
+        if !outlook.pass(token.kind)? {
+            return Ok(None);
+        }
     }
+    Ok(Some(outlook))
 }

@@ -1,13 +1,13 @@
 //! An insertion of a literal that has no closing character, and characters outside of a literal that may be meant inside of one.
 
-use crate::draft::Draft;
 use crate::foreign::is_letter;
 use crate::reasons::reason;
-use crate::sites::Site;
+use crate::sentences::Place;
+use crate::sites::push_besides;
 use crate::text_lines::line_at;
-use sbl_source_map::{ScriptFault, position_of};
+use sbl_source_map::{Position, ScriptFault, position_of};
 use sbl_text::{Inserts, Kind, Lexer};
-use std::alloc::Global;
+use std::alloc::{AllocError, Global};
 
 /// Returns the two characters of a token as insert characters.
 fn inserts_of(text: &str) -> Option<Inserts> {
@@ -19,7 +19,9 @@ fn inserts_of(text: &str) -> Option<Inserts> {
 
 /// Returns the insert characters that hold after the tokens of a text, if there are some. The text may end in a literal.
 fn inserts_after(alloc: Global, text: &[u8]) -> Option<Inserts> {
-    let text = str::from_utf8(text).unwrap_or("");
+    let Ok(text) = str::from_utf8(text) else {
+        return None;
+    };
     let mut lexer = Lexer::new(alloc, text);
     let mut found = None;
     for _ in 0..text.len() {
@@ -34,13 +36,15 @@ fn inserts_after(alloc: Global, text: &[u8]) -> Option<Inserts> {
 }
 
 /// Returns the insert characters that hold at a place: in a typed block those of the script.
-fn inserts_at(site: &Site<'_>) -> Option<Inserts> {
-    let faulty = site.faulty;
-    let text = match faulty.part {
-        Some(_) => faulty.script,
-        None => faulty.prefix_before(site.spot.begin),
-    };
-    inserts_after(faulty.alloc, text)
+fn inserts_at(place: Place<'_>) -> Option<Inserts> {
+    let Place { faulty, spot } = place;
+    match faulty.part {
+        Some(_) => inserts_after(faulty.alloc, faulty.script),
+        None => inserts_after(
+            faulty.alloc,
+            faulty.text.get(..spot.begin).unwrap_or(faulty.text),
+        ),
+    }
 }
 
 /// Returns where an insertion begins, in a text that begins with a literal or an insertion, that has no end, or whose name has white space
@@ -72,51 +76,55 @@ fn open_insertion(text: &str, inserts: Inserts) -> Option<usize> {
 }
 
 /// Appends what is wrong with a literal or an insertion: that the closing character is missing, if that is so.
-pub(crate) fn push_insertion(draft: &mut Draft, site: &Site<'_>) {
-    let faulty = site.faulty;
-    let Some(inserts) = inserts_at(site) else {
-        return push_unclosed(draft, site, None);
+pub(crate) fn push_insertion(shown: &mut String, place: Place<'_>) -> Result<(), AllocError> {
+    let Place { faulty, spot } = place;
+    let rest = str::from_utf8(faulty.text.get(spot.begin..).unwrap_or(&[])).unwrap_or("");
+    let Some(inserts) = inserts_at(place) else {
+        return push_unclosed(shown, place, None);
     };
-    match (open_insertion(site.rest(), inserts), faulty.fault) {
+    let closing = inserts.closing;
+    match (open_insertion(rest, inserts), faulty.fault) {
         (Some(0), ScriptFault::UnknownEscape { .. } | ScriptFault::BadCode { .. }) => {
-            draft.put("the insertion that begins here has no closing ");
-            draft.push(inserts.closing);
+            shown.push_str("the insertion that begins here has no closing ")?;
+            shown.push(closing)
         }
         (Some(length), ScriptFault::UnclosedString { .. }) => {
-            let begin = site.spot.begin.saturating_add(length);
-            draft.put("the insertion that begins at ");
-            draft.put_position(position_of(faulty.text, begin));
-            draft.put(" has no closing ");
-            draft.push(inserts.closing);
+            let begin = spot.begin.saturating_add(length);
+            let Position { line, column } = position_of(faulty.text, begin);
+            let text = format!(in faulty.alloc;
+                "the insertion that begins at {line}:{column} has no closing {closing}"
+            )?;
+            shown.push_str(text.as_str())
         }
-        _ => push_unclosed(draft, site, Some(inserts)),
+        _ => push_unclosed(shown, place, Some(inserts)),
     }
 }
 
 /// Appends what is wrong with a literal or an insertion by its fault alone. If a literal has no closing quote and begins at the
 /// end of another one, or if its line has two quotes after a letter, a quote may be meant as one inside of a literal.
-fn push_unclosed(draft: &mut Draft, site: &Site<'_>, inserts: Option<Inserts>) {
-    let (fault, begin) = (site.faulty.fault, site.spot.begin);
-    draft.put(reason(fault));
-    let is_meant = site.faulty.prefix_before(begin).ends_with(b"'") || doubles_quote(line_of(site));
-    if !is_meant || !matches!(fault, ScriptFault::UnclosedString { .. }) {
-        return;
+fn push_unclosed(
+    shown: &mut String,
+    place: Place<'_>,
+    inserts: Option<Inserts>,
+) -> Result<(), AllocError> {
+    let Place { faulty, spot } = place;
+    shown.push_str(reason(faulty.fault))?;
+    let before = faulty.text.get(..spot.begin).unwrap_or(&[]);
+    let line = line_at(faulty.text, position_of(faulty.text, spot.begin).line);
+    let follows_quote = matches!(before.last(), Some(byte) if *byte == b'\'');
+    let is_meant = follows_quote || doubles_quote(line);
+    if !is_meant || !matches!(faulty.fault, ScriptFault::UnclosedString { .. }) {
+        return Ok(());
     }
-    draft.put(". A quote in a literal is ");
+    shown.push_str(". A quote in a literal is ")?;
     match inserts {
-        None => draft.put("{'}, with stringescapes {} above it"),
+        None => shown.push_str("{'}, with stringescapes {} above it"),
         Some(inserts) => {
-            draft.push(inserts.opening);
-            draft.push('\'');
-            draft.push(inserts.closing);
+            shown.push(inserts.opening)?;
+            shown.push('\'')?;
+            shown.push(inserts.closing)
         }
     }
-}
-
-/// Returns the line of a place.
-fn line_of<'a>(site: &Site<'a>) -> &'a [u8] {
-    let text = site.faulty.text;
-    line_at(text, position_of(text, site.spot.begin).line)
 }
 
 /// Returns whether a line has two quotes after a letter, as other languages write a quote in a literal.
@@ -154,14 +162,21 @@ fn has_odd_quotes(line: &[u8]) -> bool {
 
 /// Appends that insertions need `stringescapes`, or that a quote may be missing, if a character that begins no token may be meant
 /// inside of a literal.
-pub(crate) fn push_missing_quote(draft: &mut Draft, site: &Site<'_>, character: char) {
-    let (text, begin) = (site.faulty.text, site.spot.begin);
-    let is_insertion = character == '}' || site.faulty.rest_from(begin).starts_with(b"{'");
-    if is_insertion && inserts_at(site).is_none() {
-        return draft.put_besides("A literal with {..} needs stringescapes {} above it");
+pub(crate) fn push_missing_quote(
+    shown: &mut String,
+    place: Place<'_>,
+    character: char,
+) -> Result<(), AllocError> {
+    let Place { faulty, spot } = place;
+    let rest = faulty.text.get(spot.begin..).unwrap_or(&[]);
+    let is_insertion = character == '}' || rest.starts_with(b"{'");
+    if is_insertion && inserts_at(place).is_none() {
+        return push_besides(shown, "A literal with {..} needs stringescapes {} above it");
     }
-    let is_inside = character == '{' && !follows_quote(text, begin);
-    if (is_inside || is_letter(character)) && has_odd_quotes(line_of(site)) {
-        draft.put_besides("Look for a missing quote before it, too");
+    let is_inside = character == '{' && !follows_quote(faulty.text, spot.begin);
+    let line = line_at(faulty.text, position_of(faulty.text, spot.begin).line);
+    if (is_inside || is_letter(character)) && has_odd_quotes(line) {
+        return push_besides(shown, "Look for a missing quote before it, too");
     }
+    Ok(())
 }

@@ -7,7 +7,6 @@ mod comments;
 mod constructs;
 mod declarations;
 mod definitions;
-mod draft;
 mod enclosed;
 mod encodings;
 mod expectations;

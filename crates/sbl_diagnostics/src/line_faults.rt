@@ -1,6 +1,6 @@
 //! The line on a fault of one line of an input: where it is, what is wrong, and what to do.
 
-use crate::draft::Draft;
+use crate::characters::push_named;
 use crate::encodings::push_conversion;
 use std::alloc::{AllocError, Global};
 
@@ -37,27 +37,25 @@ pub fn bad_line_text(
     line: u64,
     problem: BadLine<'_>,
 ) -> Result<String, AllocError> {
-    let mut draft = Draft::new(alloc);
-    draft.put_named(name);
-    draft.put(":");
-    draft.put_digits(format!(in alloc; "{line}"));
-    draft.put(": ");
+    let mut shown = String::new(alloc);
+    push_named(&mut shown, name)?;
+    let place = format!(in alloc; ":{line}: ")?;
+    shown.push_str(place.as_str())?;
     match problem {
         BadLine::NotText(bytes) => {
-            draft.put("not UTF-8. ");
-            push_conversion(&mut draft, bytes, file_of(name));
+            shown.push_str("not UTF-8. ")?;
+            push_conversion(&mut shown, bytes, file_of(name))?;
         }
         BadLine::TooLong(role) => {
-            draft.put("more than 65,536 bytes, which no line may have. ");
-            draft.put(advice(role));
+            shown.push_str("more than 65,536 bytes, which no line may have. ")?;
+            shown.push_str(advice(role))?;
         }
         BadLine::LongWord(most) => {
-            draft.put("more than ");
-            draft.put_number(most);
-            draft.put(" characters, which no word may have");
+            let text = format!(in alloc; "more than {most} characters, which no word may have")?;
+            shown.push_str(text.as_str())?;
         }
     }
-    draft.finish()
+    Ok(shown)
 }
 
 /// Returns the name of the file of an input in a command.

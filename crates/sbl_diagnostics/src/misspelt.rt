@@ -1,130 +1,145 @@
 //! Reserved words that are misspelt: what may be meant.
 
-use crate::declarations::declaration_of;
-use crate::draft::Draft;
+use crate::characters::push_cut;
+use crate::declarations::{declaration_of, declared_in};
 use crate::foreign::advice_on;
 use crate::grammar::outlook_after;
 use crate::near::{nearest_of, nearest_words, push_question};
 use crate::reasons::reason;
-use crate::sites::{Site, next_kind, tokens_of};
+use crate::sentences::{Place, tokens_before};
+use crate::sites::{Site, push_advice};
 use sbl_script::Part;
 use sbl_text::{Kind, Lexer, Sign, Token, Word};
-use std::alloc::Global;
+use std::alloc::{AllocError, Global};
 
 /// A reserved word is meant at a fault of the grammar only if it has at most one change for so many letters (our own choice).
 const LETTERS: usize = 3;
 
-/// Appends what the name at the place may be meant for if it is not declared: what to write for a word of other languages, or a reserved
-/// word that can come there. Returns whether it did.
-pub(crate) fn push_meaning(draft: &mut Draft, site: &Site<'_>) -> bool {
-    let (faulty, name) = (site.faulty, site.spot.token);
-    if declaration_of(&site.declared, name).is_some() {
-        return false;
-    }
-    if let Some(advice) = advice_on(&site.script, name) {
-        return draft.advise(advice);
-    }
-    let found = nearest_words(
-        draft,
-        faulty.alloc,
-        name,
-        &site.before,
-        faulty.part,
-        LETTERS,
-    );
-    if found.is_empty() {
-        return false;
-    }
-    draft.put(".");
-    push_question(draft, &found)
+/// Returns whether a script declares this name.
+fn is_declared(alloc: Global, script: &[u8], name: &str) -> Result<bool, AllocError> {
+    let declared = declared_in(alloc, script)?;
+    Ok(declaration_of(&declared, name).is_some())
 }
 
-/// Returns those of these words after which a token can come, if they come after these tokens. If an allocation fails, the draft fails.
+/// Appends what the name at the place may be meant for if it is not declared: what to write for a word of other languages, or a reserved
+/// word that can come there. Returns whether it did.
+pub(crate) fn push_meaning(
+    shown: &mut String,
+    site: Site<'_>,
+    tokens: &[Token<'_>],
+) -> Result<bool, AllocError> {
+    let (faulty, name) = (site.faulty, site.spot.token);
+    if is_declared(faulty.alloc, faulty.script, name)? {
+        return Ok(false);
+    }
+    if let Some(advice) = advice_on(faulty.alloc, faulty.script, name) {
+        return push_advice(shown, advice);
+    }
+    let found = nearest_words(faulty.alloc, name, tokens, faulty.part, LETTERS)?;
+    if found.is_empty() {
+        return Ok(false);
+    }
+    shown.push_str(".")?;
+    push_question(shown, &found)
+}
+
+/// Returns those of these words after which a token can come, if they come after these tokens.
 fn words_before(
-    draft: &mut Draft,
     alloc: Global,
     words: &[&'static str],
     tokens: &[Token<'_>],
     part: Option<Part<'_>>,
     kind: Kind,
-) -> Vec<&'static str> {
+) -> Result<Vec<&'static str>, AllocError> {
     let mut found = Vec::new(alloc);
     for word in words {
-        if can_follow(draft, alloc, word, tokens, part, kind) && found.push(*word).is_err() {
-            draft.fail();
+        if can_follow(alloc, *word, tokens, part, kind)? {
+            found.push(*word)?;
         }
     }
-    found
+    Ok(found)
 }
 
-/// Returns whether a token can come after these tokens and a word. If an allocation fails, the draft fails.
+/// Returns whether a token can come after these tokens and a word.
 fn can_follow(
-    draft: &mut Draft,
     alloc: Global,
     word: &str,
     tokens: &[Token<'_>],
     part: Option<Part<'_>>,
     kind: Kind,
-) -> bool {
-    let mut lexer = Lexer::new(alloc, word);
-    let Some(word) = next_kind(&mut lexer) else {
-        return false;
+) -> Result<bool, AllocError> {
+    let Some(mut outlook) = outlook_after(alloc, tokens, part)? else {
+        return Ok(false);
     };
-    match outlook_after(draft, alloc, tokens, part) {
-        Some(mut outlook) => outlook.pass(draft, word) && outlook.takes(kind),
-        None => false,
-    }
+    let Ok(Some(token)) = Lexer::new(alloc, word).next() else {
+        return Ok(false);
+    };
+    Ok(outlook.pass(token.kind)? && outlook.takes(kind))
 }
 
 /// Appends which reserved word the name before the place may be meant for: it is not declared, and with the word the token at the place
 /// could follow. Returns whether it did.
-pub(crate) fn push_word_before(draft: &mut Draft, site: &Site<'_>) -> bool {
-    let (alloc, part) = (site.faulty.alloc, site.faulty.part);
+pub(crate) fn push_word_before(
+    shown: &mut String,
+    site: Site<'_>,
+    tokens: &[Token<'_>],
+) -> Result<bool, AllocError> {
+    let faulty = site.faulty;
     let (Some(name), Some(kind)) = (site.last_of(Kind::Name), site.spot.kind) else {
-        return false;
+        return Ok(false);
     };
-    let [before @ .., _] = site.before.as_slice() else {
-        return false;
+    let [before @ .., _] = tokens else {
+        return Ok(false);
     };
-    if declaration_of(&site.declared, name).is_some() || advice_on(&site.script, name).is_some() {
-        return false;
+    if is_declared(faulty.alloc, faulty.script, name)?
+        || advice_on(faulty.alloc, faulty.script, name).is_some()
+    {
+        return Ok(false);
     }
-    let near = nearest_words(draft, alloc, name, before, part, LETTERS);
-    let found = words_before(draft, alloc, &near, before, part, kind);
+    let near = nearest_words(faulty.alloc, name, before, faulty.part, LETTERS)?;
+    let found = words_before(faulty.alloc, &near, before, faulty.part, kind)?;
     if found.is_empty() {
-        return false;
+        return Ok(false);
     }
-    draft.advise_on("% is not declared.", &[name]);
-    push_question(draft, &found)
+    shown.push_str(". ")?;
+    push_cut(shown, name)?;
+    shown.push_str(" is not declared.")?;
+    push_question(shown, &found)
 }
 
 /// Returns the first name after an offset that has a parenthesis after it, and is near `among`.
-fn near_among<'a>(tokens: &[Token<'a>], offset: usize) -> Option<&'a str> {
+fn near_among<'a>(
+    alloc: Global,
+    tokens: &[Token<'a>],
+    offset: usize,
+) -> Result<Option<&'a str>, AllocError> {
     let mut name = "";
     for token in tokens {
         let is_name = token.kind == Kind::Name && token.start > offset;
-        if token.kind == Kind::Sign(Sign::Open) && nearest_of(name, &["among"]).is_some() {
-            return Some(name);
+        if token.kind == Kind::Sign(Sign::Open) && nearest_of(alloc, name, &["among"])?.is_some() {
+            return Ok(Some(name));
         }
         if token.kind == Kind::Word(Word::Define) && token.start > offset {
-            return None;
+            return Ok(None);
         }
         name = if is_name { token.text } else { "" };
     }
-    None
+    Ok(None)
 }
 
 /// Appends that a `substring` has no `among`, and a name after it that may be meant for one.
-pub(crate) fn push_substring(draft: &mut Draft, site: &Site<'_>) {
-    let faulty = site.faulty;
-    draft.put(reason(faulty.fault));
-    let Some(tokens) = tokens_of(faulty.alloc, faulty.text) else {
-        return;
+pub(crate) fn push_substring(shown: &mut String, place: Place<'_>) -> Result<(), AllocError> {
+    let Place { faulty, spot } = place;
+    shown.push_str(reason(faulty.fault))?;
+    let Some(tokens) = tokens_before(faulty.alloc, faulty.text, faulty.text.len()) else {
+        return Ok(());
     };
-    match near_among(&tokens, site.spot.begin) {
-        Some(name) if declaration_of(&site.declared, name).is_none() => {
-            draft.advise_on("% is not declared. Did you mean among?", &[name]);
+    match near_among(faulty.alloc, &tokens, spot.begin)? {
+        Some(name) if !is_declared(faulty.alloc, faulty.script, name)? => {
+            shown.push_str(". ")?;
+            push_cut(shown, name)?;
+            shown.push_str(" is not declared. Did you mean among?")
         }
-        _ => {}
+        _ => Ok(()),
     }
 }

@@ -1,9 +1,8 @@
 //! The sentence on a fault, in one line.
 
-use crate::draft::Draft;
 use crate::places::spot_at;
-use crate::sentences::{push_reason, push_sentence, push_short};
-use crate::sites::Faulty;
+use crate::reasons::{begins_sentence, reason};
+use crate::sentences::{Faulty, Place, is_blank, push_reason, push_sentence, push_thing};
 use sbl_script::Part;
 use sbl_source_map::ScriptFault;
 use std::alloc::{AllocError, Global};
@@ -21,18 +20,44 @@ pub struct RefusedText<'a> {
     pub external: &'a str,
 }
 
+/// Returns a text with a blank for each end of a line.
+fn in_one_line(alloc: Global, text: &str) -> Result<String, AllocError> {
+    let mut line = String::new(alloc);
+    for character in text.chars() {
+        line.push(if character == '\n' { ' ' } else { character })?;
+    }
+    Ok(line)
+}
+
+/// Appends what is at a place and what is wrong with it, without advice.
+fn push_short(shown: &mut String, place: Place<'_>) -> Result<(), AllocError> {
+    let fault = place.faulty.fault;
+    if !begins_sentence(fault) {
+        push_thing(shown, place.spot)?;
+        shown.push_str(" ")?;
+    }
+    shown.push_str(reason(fault))
+}
+
 /// Appends what is wrong at a place of a text, or with the text if the fault is at no place.
-fn push_fault(draft: &mut Draft, faulty: Faulty<'_>, begin: Option<usize>, is_short: bool) {
-    match begin {
-        Some(begin) if !faulty.is_empty() => {
-            let spot = spot_at(faulty.alloc, faulty.text, begin);
-            if is_short {
-                push_short(draft, faulty.fault, spot);
-            } else {
-                push_sentence(draft, faulty, spot);
-            }
-        }
-        _ => push_reason(draft, faulty),
+fn push_fault(
+    shown: &mut String,
+    faulty: Faulty<'_>,
+    begin: Option<usize>,
+    is_short: bool,
+) -> Result<(), AllocError> {
+    if faulty.part.is_some() && is_blank(faulty.text) {
+        return shown.push_str("the text is empty");
+    }
+    let Some(begin) = begin else {
+        return push_reason(shown, faulty);
+    };
+    let spot = spot_at(faulty.alloc, faulty.text, begin);
+    let place = Place { faulty, spot };
+    if is_short {
+        push_short(shown, place)
+    } else {
+        push_sentence(shown, place)
     }
 }
 
@@ -53,7 +78,7 @@ pub fn fault_sentence(
         script: refused.script,
         external: refused.external,
     };
-    let mut draft = Draft::new(alloc);
-    push_fault(&mut draft, faulty, begin, is_short);
-    draft.in_one_line().finish()
+    let mut shown = String::new(alloc);
+    push_fault(&mut shown, faulty, begin, is_short)?;
+    in_one_line(alloc, shown.as_str())
 }

@@ -5,12 +5,10 @@ ghost use Rattle.std.specs.Str.{IsUtf8, IsValidUpTo};
 ghost use Rattle.sbl_ast.specs.Source.{Source};
 ghost use Rattle.sbl_script.specs.Reading.{IsFaultOf, IsScriptOf};
 
-use crate::characters::{plain, width};
-use crate::draft::Draft;
-use crate::sentences::{push_reason, push_sentence};
-use crate::sites::{Faulty, Spot};
+use crate::characters::{plain, push_named, width};
+use crate::sentences::{Faulty, Place, Spot, is_blank, push_reason, push_sentence};
 use crate::text_lines::line_at;
-use sbl_script::{Part, Script};
+use sbl_script::Script;
 use sbl_source_map::{Position, ScriptFault, offset_of_fault, position_of};
 use sbl_text::Lexer;
 use std::alloc::{AllocError, Global};
@@ -75,160 +73,159 @@ fn first_character(text: &str) -> &str {
 
 /// Returns what is at an offset of a text: a token, or else a character.
 pub(crate) fn spot_at(alloc: Global, text: &[u8], begin: usize) -> Spot<'_> {
-    let rest = str::from_utf8(text.get(begin..).unwrap_or(&[])).unwrap_or("");
-    let (token, kind) = match Lexer::new(alloc, rest).next() {
-        Ok(Some(token)) if token.start == 0 => (token.text, Some(token.kind)),
-        _ => (first_character(rest), None),
+    let rest = text.get(begin..).unwrap_or(&[]);
+    let Ok(rest) = str::from_utf8(rest) else {
+        return Spot {
+            begin,
+            token: "",
+            kind: None,
+        };
     };
-    Spot { begin, token, kind }
-}
-
-/// Returns the first character of some bytes, and how many of them it has; `?` for a byte that no character begins with.
-fn first_of(bytes: &[u8]) -> (char, usize) {
-    for length in 1..5 {
-        let text = str::from_utf8(bytes.get(..length).unwrap_or(&[])).unwrap_or("");
-        if let Some(character) = text.chars().next() {
-            return (character, length);
-        }
+    match Lexer::new(alloc, rest).next() {
+        Ok(Some(token)) if token.start == 0 => Spot {
+            begin,
+            token: token.text,
+            kind: Some(token.kind),
+        },
+        _ => Spot {
+            begin,
+            token: first_character(rest),
+            kind: None,
+        },
     }
-    ('?', 1)
 }
 
-/// Returns the characters of a line, with `?` for each byte that is not UTF-8. If an allocation fails, the draft fails.
-fn characters_of(draft: &mut Draft, alloc: Global, line: &[u8]) -> Vec<char> {
+/// Returns the characters of a line, with `?` for each byte that is not UTF-8.
+fn characters_of(alloc: Global, line: &[u8]) -> Result<Vec<char>, AllocError> {
     let mut characters = Vec::new(alloc);
-    let mut end: usize = 0;
-    for at in 0..line.len() {
-        if at >= end {
-            let (character, length) = first_of(line.get(at..).unwrap_or(&[]));
-            end = at.saturating_add(length);
-            if characters.push(character).is_err() {
-                draft.fail();
-            }
+    let mut rest = line;
+    for _ in 0..line.len() {
+        let valid = match str::from_utf8(rest) {
+            Ok(text) => return push_characters(characters, text),
+            Err(error) => error.valid_up_to(),
+        };
+        let (prefix, after) = split_at(rest, valid);
+        if let Ok(text) = str::from_utf8(prefix) {
+            characters = push_characters(characters, text)?;
         }
+        characters.push('?')?;
+        rest = after.get(1..).unwrap_or(&[]);
     }
-    characters
+    Ok(characters)
+}
+
+/// Returns the bytes before an offset, and those from it on; none after it if there are fewer.
+fn split_at(bytes: &[u8], offset: usize) -> (&[u8], &[u8]) {
+    (
+        bytes.get(..offset).unwrap_or(bytes),
+        bytes.get(offset..).unwrap_or(&[]),
+    )
+}
+
+/// Returns the characters with those of a text after them.
+fn push_characters(mut characters: Vec<char>, text: &str) -> Result<Vec<char>, AllocError> {
+    for character in text.chars() {
+        characters.push(character)?;
+    }
+    Ok(characters)
 }
 
 /// Appends characters, with `?` for those that a terminal obeys.
-fn push_shown(draft: &mut Draft, characters: &[char]) {
+fn push_shown(shown: &mut String, characters: &[char]) -> Result<(), AllocError> {
     for character in characters {
-        draft.push(plain(*character));
+        shown.push(plain(*character))?;
     }
+    Ok(())
 }
 
 /// Appends blanks that are as wide as these characters; tabs stay tabs.
-fn push_blanks(draft: &mut Draft, characters: &[char]) {
+fn push_blanks(shown: &mut String, characters: &[char]) -> Result<(), AllocError> {
     for character in characters {
         if *character == '\t' {
-            draft.push('\t');
+            shown.push('\t')?;
         } else {
-            push_times(draft, ' ', width(*character));
+            push_times(shown, ' ', width(*character))?;
         }
     }
+    Ok(())
 }
 
 /// Appends a character so many times.
-fn push_times(draft: &mut Draft, character: char, count: usize) {
+fn push_times(shown: &mut String, character: char, count: usize) -> Result<(), AllocError> {
     for _ in 0..count {
-        draft.push(character);
+        shown.push(character)?;
     }
+    Ok(())
 }
 
 /// Appends carets that are as wide as these characters, and one if they have no width.
-fn push_carets(draft: &mut Draft, characters: &[char]) {
+fn push_carets(shown: &mut String, characters: &[char]) -> Result<(), AllocError> {
     let mut columns: usize = 0;
     for character in characters {
         columns = columns.saturating_add(width(*character));
     }
-    push_times(draft, '^', columns.max(1));
+    push_times(shown, '^', columns.max(1))
 }
 
 /// Appends the line of a place, of a long line the part around it, and carets below the token. `before` is how many characters are
 /// before the place, and `length` how many the token has.
-fn push_line(draft: &mut Draft, characters: &[char], before: usize, length: usize) {
+fn push_line(
+    shown: &mut String,
+    characters: &[char],
+    before: usize,
+    length: usize,
+) -> Result<(), AllocError> {
     let first = if before >= WIDE { before - BEFORE } else { 0 };
     let rest = characters.get(first..).unwrap_or(&[]);
     let part = rest.get(..SHOWN).unwrap_or(rest);
     let place = before.saturating_sub(first).min(part.len());
     let begin = if first > 0 { LEFT_OUT } else { "" };
-    draft.put("\n    ");
-    draft.put(begin);
-    push_shown(draft, part);
+    shown.push_str("\n    ")?;
+    shown.push_str(begin)?;
+    push_shown(shown, part)?;
     if part.len() < rest.len() {
-        draft.put(LEFT_OUT);
+        shown.push_str(LEFT_OUT)?;
     }
-    draft.put("\n    ");
-    push_times(draft, ' ', begin.len());
-    push_blanks(draft, part.get(..place).unwrap_or(&[]));
+    shown.push_str("\n    ")?;
+    push_times(shown, ' ', begin.len())?;
+    push_blanks(shown, part.get(..place).unwrap_or(&[]))?;
     let token = part.get(place..).unwrap_or(&[]);
-    push_carets(draft, token.get(..length).unwrap_or(token));
+    push_carets(shown, token.get(..length).unwrap_or(token))
 }
 
-/// What a text is called.
-#[derive(Clone, Copy)]
-pub(crate) enum Heading<'a> {
-    /// The name of a script.
-    Script(&'a str),
-    /// The part of a script that the text is put in place of.
-    Part(Part<'a>),
-}
-
-/// What is named before the place in a text: where the text itself is, if it is a part of a longer one, and what it is called.
+/// What is named before the place in a text: where the text itself is, if it is a part of a longer one, and its title.
 #[derive(Clone, Copy)]
 pub(crate) struct Title<'a> {
-    pub(crate) heading: Heading<'a>,
+    pub(crate) title: &'a str,
     /// The name of the longer text, and the line in it in which the text begins, from 1.
     pub(crate) source: Option<(&'a str, usize)>,
 }
 
-/// Appends what a text is called: for a part the command that replaces it.
-fn push_heading(draft: &mut Draft, alloc: Global, heading: Heading<'_>) {
-    match heading {
-        Heading::Script(name) => draft.put_named(name),
-        Heading::Part(Part::Routine(name)) => draft.fill("routine %", &[name]),
-        Heading::Part(Part::Grouping(name)) => draft.fill("grouping %", &[name]),
-        Heading::Part(Part::Among(name, k)) => {
-            draft.fill("among % ", &[name]);
-            draft.put_digits(format!(in alloc; "{k}"));
-        }
-    }
-}
-
 /// Appends the title and, if there is one, the position. It ends with a colon and a blank.
 pub(crate) fn push_title(
-    draft: &mut Draft,
     alloc: Global,
+    shown: &mut String,
     title: Title<'_>,
     position: Option<Position>,
-) {
+) -> Result<(), AllocError> {
     if let Some((name, first)) = title.source {
-        let Position { line, column } = position.unwrap_or(Position { line: 1, column: 1 });
-        draft.put_named(name);
-        draft.put(":");
-        draft.put_position(Position {
-            line: first.saturating_add(line.saturating_sub(1)),
-            column,
-        });
-        draft.put(": ");
+        let (line, column) = match position {
+            Some(position) => (position.line, position.column),
+            None => (1, 1),
+        };
+        let row = first.saturating_add(line.saturating_sub(1));
+        push_named(shown, name)?;
+        let place = format!(in alloc; ":{row}:{column}: ")?;
+        shown.push_str(place.as_str())?;
     }
-    push_heading(draft, alloc, title.heading);
-    if let Some(position) = position {
-        draft.put(":");
-        draft.put_position(position);
+    push_named(shown, title.title)?;
+    match position {
+        Some(Position { line, column }) => {
+            let place = format!(in alloc; ":{line}:{column}: ")?;
+            shown.push_str(place.as_str())
+        }
+        None => shown.push_str(": "),
     }
-    draft.put(": ");
-}
-
-/// Appends the lines on a fault at an offset of a text: its place, what is wrong, and the line with carets.
-fn push_fault_at(draft: &mut Draft, title: Title<'_>, faulty: Faulty<'_>, begin: usize) {
-    let position = position_of(faulty.text, begin);
-    let spot = spot_at(faulty.alloc, faulty.text, begin);
-    push_title(draft, faulty.alloc, title, Some(position));
-    push_sentence(draft, faulty, spot);
-    let characters = characters_of(draft, faulty.alloc, line_at(faulty.text, position.line));
-    let before = position.column.saturating_sub(1);
-    push_line(draft, &characters, before, spot.token.chars().count());
 }
 
 /// Returns the lines on a fault of a text: its place, what is wrong, and the line with carets; only what is wrong if it is at no
@@ -238,15 +235,25 @@ pub(crate) fn fault_text(
     faulty: Faulty<'_>,
     begin: Option<usize>,
 ) -> Result<String, AllocError> {
-    let mut draft = Draft::new(faulty.alloc);
-    match begin {
-        Some(begin) if !faulty.is_empty() => push_fault_at(&mut draft, title, faulty, begin),
-        _ => {
-            push_title(&mut draft, faulty.alloc, title, None);
-            push_reason(&mut draft, faulty);
-        }
+    let mut shown = String::new(faulty.alloc);
+    if faulty.part.is_some() && is_blank(faulty.text) {
+        push_title(faulty.alloc, &mut shown, title, None)?;
+        shown.push_str("the text is empty")?;
+        return Ok(shown);
     }
-    draft.finish()
+    let Some(begin) = begin else {
+        push_title(faulty.alloc, &mut shown, title, None)?;
+        push_reason(&mut shown, faulty)?;
+        return Ok(shown);
+    };
+    let position = position_of(faulty.text, begin);
+    let spot = spot_at(faulty.alloc, faulty.text, begin);
+    push_title(faulty.alloc, &mut shown, title, Some(position))?;
+    push_sentence(&mut shown, Place { faulty, spot })?;
+    let characters = characters_of(faulty.alloc, line_at(faulty.text, position.line))?;
+    let before = position.column.saturating_sub(1);
+    push_line(&mut shown, &characters, before, spot.token.chars().count())?;
+    Ok(shown)
 }
 
 /// Returns the lines on a fault of a whole script. `title` is the name of the script. Returns `AllocError` if an allocation fails.
@@ -259,7 +266,7 @@ pub fn script_fault_text<'x>(
 ) -> Result<String, AllocError> {
     let begin = offset_in_script(alloc, text, fault)?;
     let title = Title {
-        heading: Heading::Script(title),
+        title,
         source: None,
     };
     let faulty = Faulty {

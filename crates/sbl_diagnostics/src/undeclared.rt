@@ -1,20 +1,18 @@
 //! Names that are not declared: what may be meant, and how to declare them.
 
-use crate::declarations::declaration_of;
+use crate::characters::{cut, push_cut};
+use crate::declarations::{DeclaredName, declaration_of, names_of};
 use crate::definitions::is_at_terms;
-use crate::draft::Draft;
 use crate::foreign::advice_on;
 use crate::grammar::is_operator;
-use crate::near::{fewest_changes, nearest_words, push_near, push_question};
-use crate::sites::Site;
+use crate::near::{is_word_nearer, push_listed, push_near, push_near_word};
+use crate::sentences::{Faulty, Place, tokens_of};
 use sbl_script::Part;
 use sbl_text::{Kind, Sign, Token, Word};
+use std::alloc::{AllocError, Global};
 
 /// A name with fewer bytes is near to so many that it may well be a new one (our own choice).
 const LEAST_SURE: usize = 4;
-
-/// A name may be meant for another one only if it has at most one change for so many letters (our own choice).
-const LETTERS: usize = 2;
 
 /// How a name is used at a place.
 #[derive(Clone, Copy, PartialEq, Eq)]
@@ -87,48 +85,54 @@ fn defined_in(tokens: &[Token<'_>], name: &str) -> Option<Word> {
     found
 }
 
-/// Returns how a name is used after these two tokens, if a name of one kind alone can follow them, and otherwise.
-fn usage_after(last: Kind, is_one_kind: bool) -> Usage {
-    match last {
-        Kind::Word(Word::SetMark | Word::Define) => Usage::New,
-        _ if is_one_kind => Usage::OneKind,
-        _ => Usage::Command,
-    }
+/// Returns the word that declares what a script defines a name as, if it does and its tokens can be read.
+fn defined_as(alloc: Global, script: &[u8], name: &str) -> Option<Word> {
+    defined_in(&tokens_of(alloc, script), name)
 }
 
-/// Returns what a name has to be at a place that is not among the terms of a grouping.
-fn need_after(site: &Site<'_>) -> Need {
-    let Some(last) = site.last_kind() else {
-        return Need {
-            word: Word::Routines,
-            usage: Usage::Command,
-        };
+/// Returns what a name has to be that follows these tokens of a text.
+fn need_after(faulty: Faulty<'_>, before: &[Token<'_>], name: &str) -> Need {
+    let (prior, last) = match before {
+        [.., prior, last] => (Some(prior.kind), last.kind),
+        [last] => (None, last.kind),
+        [] => {
+            return Need {
+                word: Word::Routines,
+                usage: Usage::Command,
+            };
+        }
     };
-    let only = only_kind(site.prior_kind(), last);
+    if let Some(word) = only_kind(prior, last) {
+        let usage = match last {
+            Kind::Word(Word::SetMark) => Usage::New,
+            _ => Usage::OneKind,
+        };
+        return Need { word, usage };
+    }
     let guess = match last {
         Kind::Word(Word::GoTo | Word::GoPast) => Word::Groupings,
         _ => Word::Routines,
     };
-    let word = match only {
-        Some(word) => word,
-        None => defined_in(&site.script, site.spot.token).unwrap_or(guess),
+    let usage = match last {
+        Kind::Word(Word::Define) => Usage::New,
+        _ => Usage::Command,
     };
     Need {
-        word,
-        usage: usage_after(last, only.is_some()),
+        word: defined_as(faulty.alloc, faulty.script, name).unwrap_or(guess),
+        usage,
     }
 }
 
 /// Returns what the name at a place has to be.
-fn need_at(site: &Site<'_>) -> Need {
-    if is_at_terms(site) {
-        Need {
+fn need_at(place: Place<'_>) -> Need {
+    let Place { faulty, spot } = place;
+    if is_at_terms(place) {
+        return Need {
             word: Word::Groupings,
             usage: Usage::OneKind,
-        }
-    } else {
-        need_after(site)
+        };
     }
+    need_after(faulty, &place.tokens_before(), spot.token)
 }
 
 /// Returns whether a name that this word declares can be used so.
@@ -140,24 +144,24 @@ fn can_be(declared: Word, need: Need) -> bool {
     }
 }
 
-/// Returns the declared names that can be used so, but not this one. If an allocation fails, the draft fails.
-fn usable_names<'a>(draft: &mut Draft, site: &Site<'a>, need: Need, own: &str) -> Vec<&'a str> {
-    let mut found = Vec::new(site.faulty.alloc);
-    for one in &site.declared {
-        if can_be(one.word, need) && one.name != own && found.push(one.name).is_err() {
-            draft.fail();
+/// Returns the declared names that can be used so, but not the grouping whose terms are typed.
+fn usable_names<'a>(
+    alloc: Global,
+    declared: &[DeclaredName<'a>],
+    part: Option<Part<'_>>,
+    need: Need,
+) -> Result<Vec<&'a str>, AllocError> {
+    let own = match part {
+        Some(Part::Grouping(name)) => name,
+        _ => "",
+    };
+    let mut found = Vec::new(alloc);
+    for one in declared {
+        if can_be(one.word, need) && one.name != own {
+            found.push(one.name)?;
         }
     }
-    found
-}
-
-/// Returns the names that a script declares as externals. If an allocation fails, the draft fails.
-pub(crate) fn externals_of<'a>(draft: &mut Draft, site: &Site<'a>) -> Vec<&'a str> {
-    let need = Need {
-        word: Word::Externals,
-        usage: Usage::OneKind,
-    };
-    usable_names(draft, site, need, "")
+    Ok(found)
 }
 
 /// Returns the text of a word that declares names.
@@ -172,87 +176,101 @@ fn declaring_text(word: Word) -> &'static str {
 }
 
 /// Appends how to declare a name, between two texts. A typed block declares nothing, so there it is to be done in the script.
-fn push_declaration(draft: &mut Draft, site: &Site<'_>, need: Need, lead: &str, rest: &str) {
-    draft.put(lead);
-    draft.put(match site.faulty.part {
-        Some(_) => " it in the script, as in ",
-        None => " it, as in ",
-    });
-    draft.fill("% ( % )", &[declaring_text(need.word), site.spot.token]);
-    draft.put(rest);
-}
-
-/// Appends how to declare a name that may be another one.
-fn push_declaration_if_not(draft: &mut Draft, site: &Site<'_>, need: Need) {
-    push_declaration(draft, site, need, " If not, declare", ".");
-}
-
-/// Returns whether a reserved word is nearer to a name than each of these names.
-fn is_word_nearer(name: &str, names: &[&str], words: &[&str]) -> bool {
-    let Some(count) = fewest_changes(name, words, LETTERS) else {
-        return false;
+fn push_declaration(
+    shown: &mut String,
+    place: Place<'_>,
+    need: Need,
+    lead: &str,
+    rest: &str,
+) -> Result<(), AllocError> {
+    let name = cut(place.faulty.alloc, place.spot.token)?;
+    let word = declaring_text(need.word);
+    let there = match place.faulty.part {
+        Some(_) => " in the script",
+        None => "",
     };
-    match fewest_changes(name, names, LETTERS) {
-        Some(fewest) => count < fewest,
-        None => true,
-    }
+    let text = format!(in place.faulty.alloc; "{lead} it{there}, as in {word} ( {name} ){rest}")?;
+    shown.push_str(text.as_str())
+}
+
+/// Appends how to declare a name as a grouping, or how to write its characters.
+fn push_term(shown: &mut String, place: Place<'_>, need: Need) -> Result<(), AllocError> {
+    let rest = ", or put characters in quotes: '";
+    push_declaration(shown, place, need, " Declare", rest)?;
+    push_cut(shown, place.spot.token)?;
+    shown.push_str("'")
 }
 
 /// Appends what may be meant by a name or how to declare it.
-fn push_way_out(draft: &mut Draft, site: &Site<'_>) {
-    let (alloc, name) = (site.faulty.alloc, site.spot.token);
-    if let Some(advice) = advice_on(&site.script, name) {
-        draft.put(" ");
-        return draft.put(advice);
+fn push_way_out(
+    shown: &mut String,
+    declared: &[DeclaredName<'_>],
+    place: Place<'_>,
+) -> Result<(), AllocError> {
+    let Place { faulty, spot } = place;
+    let name = spot.token;
+    if let Some(advice) = advice_on(faulty.alloc, faulty.script, name) {
+        shown.push_str(" ")?;
+        return shown.push_str(advice);
     }
-    let need = need_at(site);
-    let own = match site.faulty.part {
-        Some(Part::Grouping(name)) => name,
-        _ => "",
-    };
-    let names = usable_names(draft, site, need, own);
-    let words = nearest_words(draft, alloc, name, &site.before, site.faulty.part, LETTERS);
-    let is_word = need.usage == Usage::Command && is_word_nearer(name, &names, &words);
-    if !is_word && push_near(draft, alloc, name, &names) {
+    let need = need_at(place);
+    let names = usable_names(faulty.alloc, declared, faulty.part, need)?;
+    let before = place.tokens_before();
+    let is_word = need.usage == Usage::Command
+        && is_word_nearer(faulty.alloc, name, &names, &before, faulty.part)?;
+    if !is_word && push_near(faulty.alloc, shown, name, &names)? {
         if need.usage == Usage::New || name.len() < LEAST_SURE {
-            push_declaration_if_not(draft, site, need);
+            return push_declaration(shown, place, need, " If not, declare", ".");
         }
-    } else if is_at_terms(site) {
-        push_declaration(draft, site, need, " Declare", "");
-        draft.fill(", or put characters in quotes: '%'", &[name]);
-    } else if push_question(draft, &words) {
-        push_declaration_if_not(draft, site, need);
-    } else {
-        push_declaration(draft, site, need, " Declare", ", or use another name.");
+        return Ok(());
     }
+    if is_at_terms(place) {
+        return push_term(shown, place, need);
+    }
+    if push_near_word(faulty.alloc, shown, name, &before, faulty.part)? {
+        return push_declaration(shown, place, need, " If not, declare", ".");
+    }
+    push_declaration(shown, place, need, " Declare", ", or use another name.")
 }
 
 /// Appends how to declare the external that is to be run, if these are declared and it is not.
-fn push_external_declaration(draft: &mut Draft, name: &str, externals: &[&str]) {
+fn push_external_declaration(
+    shown: &mut String,
+    name: &str,
+    externals: &[&str],
+) -> Result<(), AllocError> {
     if externals.is_empty() {
-        return draft.fill(" Declare it: externals ( % )", &[name]);
-    }
-    draft.put(" externals declares ");
-    draft.put_listed(externals, " and ");
-    if externals.len() > 1 {
-        draft.fill(": write % there, too", &[name]);
+        shown.push_str(" Declare it: externals ( ")?;
     } else {
-        draft.fill(": write externals ( % )", &[name]);
+        shown.push_str(" externals declares ")?;
+        push_listed(shown, externals, " and ")?;
+        if externals.len() > 1 {
+            shown.push_str(": write ")?;
+            push_cut(shown, name)?;
+            return shown.push_str(" there, too");
+        }
+        shown.push_str(": write externals ( ")?;
     }
+    push_cut(shown, name)?;
+    shown.push_str(" )")
 }
 
 /// Appends that a name is not declared, and what may be meant or how to declare it.
-pub(crate) fn push_undeclared(draft: &mut Draft, site: &Site<'_>) {
-    let name = site.spot.token;
-    if declaration_of(&site.declared, name).is_some() {
-        return draft.put(" is declared only after this: move its declaration before it");
+pub(crate) fn push_undeclared(
+    shown: &mut String,
+    declared: &[DeclaredName<'_>],
+    place: Place<'_>,
+) -> Result<(), AllocError> {
+    let name = place.spot.token;
+    if declaration_of(declared, name).is_some() {
+        return shown.push_str(" is declared only after this: move its declaration before it");
     }
-    draft.put(" is not declared.");
-    let externals = externals_of(draft, site);
-    let is_new = externals.is_empty() || need_at(site).usage == Usage::New;
-    if name == site.faulty.external && is_new {
-        push_external_declaration(draft, name, &externals);
-    } else {
-        push_way_out(draft, site);
+    shown.push_str(" is not declared.")?;
+    let externals = names_of(place.faulty.alloc, declared, true)?;
+    if name == place.faulty.external
+        && (externals.is_empty() || need_at(place).usage == Usage::New)
+    {
+        return push_external_declaration(shown, name, &externals);
     }
+    push_way_out(shown, declared, place)
 }
