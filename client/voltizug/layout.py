@@ -31,8 +31,8 @@ def short(text: str) -> str:
 
 
 def in_quotes(word: str, is_sure: bool = False) -> str:
-    """Returns a word for a sentence: in quotes if it has a blank or a comma at an end, or if it is surely said to have quotes."""
-    return '"%s"' % short(word) if is_sure or word != word.strip().strip(",") else short(word)
+    """Returns a word for a sentence: in quotes if it has a blank at an end, if it ends with a comma, or if it is surely said to have quotes."""
+    return '"%s"' % short(word) if is_sure or word != word.strip() or word.endswith(",") else short(word)
 
 
 def quoted(name: str) -> str:
