@@ -2,7 +2,7 @@ use Rattle.std.proofs.Common.{◌≡◌, IfOk, map, rules}
 use Rattle.std.proofs.lemmas.Result.{IfOk-weaker}
 use Rattle.sbl_rows.specs.Families.{view_result, view_results}
 use Rattle.sbl_io.specs.Records.{records_text}
-use Rattle.sbl_reports.specs.Families.{result_fields}
+use Rattle.sbl_records.specs.FamilyRecords.{result_fields}
 use Rattle.sbl_records.proofs.RecordFacts.{seen_lines}
 use Rattle.sbl_reports.proofs.families.lists_text.Goals as goal
 
