@@ -57,7 +57,7 @@ class Sessions(Case):
         terminal.save(AUTHOR.replace("hop 5", "hop 4") + "// new\n")
         self.assertIn("replaced: long (undo brings it back)", terminal.enter(""))
         self.assertEqual(
-            terminal.enter("quit"), "A reload replaced what you typed (long), and no file has all of it: undo, once or more, goes back to it, quit again drops it.",
+            terminal.enter("quit"), "What you typed is replaced (long), and no file has all of it: undo, once or more, goes back to it, quit again drops it.",
         )
         terminal.save(AUTHOR)
         terminal.enter("")
@@ -889,7 +889,23 @@ class Traps(Case):
         terminal.enter("rescue")
         terminal.save(AUTHOR + "// new\n")
         self.assertIn("replaced: plural (undo brings it back)", terminal.enter(""))
-        self.assertIn("A reload replaced what you typed (plural)", terminal.enter("quit"))
+        self.assertIn("What you typed is replaced (plural)", terminal.enter("quit"))
+
+    def test_a_rescue_replaces_what_was_typed_since(self):
+        """It says so as a reload does, and so does `quit`, until a file has that, too."""
+        terminal = self.left_behind()
+        terminal.enter("among ending 1", "among ( 'x' )", ".")
+        self.assertRegex(terminal.enter("rescue"), r"brought back: plural; .*; replaced: ending \(undo brings it back\)$")
+        unsaved = "The edits that you typed are in no file: save FILE keeps them, quit again drops them."
+        replaced = "What you typed is replaced (ending), and no file has all of it: undo, once or more, goes back to it, quit again drops it."
+        self.assertEqual(terminal.enter("quit"), unsaved + "\n" + replaced)
+        self.assertEqual(terminal.enter("save new.sbl", "quit"), replaced)
+        self.assertIn("taken back: plural; ", terminal.enter("undo"))
+        self.assertIn("among ( 'x' )", terminal.enter("show ending"))
+        terminal.enter("save other.sbl")
+        self.assertIn("made again: plural; ", terminal.enter("redo"))
+        terminal.send("quit\r")
+        self.assertEqual(terminal.ended(), 0)
 
     def test_enter_after_an_undo_of_a_save(self):
         terminal = self.begin()
@@ -996,7 +1012,9 @@ class Traps(Case):
         third = self.terminal(self.folder)
         self.assertIn("(ending): rescue brings them back, rescue drop forgets them. Older ones are there, too", third.got())
         third.enter("rescue")
-        self.assertIn("3 words, 3 split", third.enter("rescue"))
+        shown = third.enter("rescue")
+        self.assertIn("3 words, 3 split", shown)
+        self.assertIn("replaced: ending (undo brings it back)", shown)
 
     def test_added_words_survive_a_closed_terminal(self):
         terminal = self.begin()

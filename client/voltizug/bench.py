@@ -14,7 +14,7 @@ GONE, QUIET = 1, 0.05
 
 class Edit(NamedTuple):
     """What an edit did: what differs from the mark now, and what it changed itself, if that may differ. `step` is what undo or redo did; `aside` are
-    the names of the typed edits that a reload replaced, with the file that has them if undo does not; `note` is a key of words.NOTES; `pairs` are the
+    the names of the typed edits that a whole script replaced, with the file that has them if undo does not; `note` is a key of words.NOTES; `pairs` are the
     figures of the families before and now; `step_names` are the edits that were rescued, if this is about them."""
 
     command: str
@@ -100,13 +100,13 @@ class Bench(Stage):
         # (called after an edit was accepted, and before it is asked what that changed)
         self.on_accepted: Callable[[], None] = lambda: None
         # The states of the files that were written here; the bytes of a text of SCRIPT that was refused; by the hash of a text of which one of SCRIPT
-        # it goes on from; the hash of the text that was rescued, and the names of its edits.
+        # it goes on from; by the hashes of texts that were rescued the names of their edits.
         self.written, self.refused_text, self.bases = {}, None, {}  # type: Dict[str, FileState], Optional[bytes], Dict[int, Optional[bytes]]
-        self.rescued, self.of_rescued = 0, ()  # type: int, Sequence[str]
+        self.rescued: Dict[int, Sequence[str]] = {}
         self.base: Optional[bytes] = None
-        # The texts that were read, by their hashes; by the hash of a text that was saved to SCRIPT, or that a reload replaced, what SCRIPT had before.
+        # The texts that were read, by their hashes; by the hash of a text that was saved to SCRIPT, or that was replaced, what SCRIPT had before.
         self.read_texts, self.replaced = set(), {}  # type: Set[int], Dict[int, bytes]
-        # The texts that a reload replaced, with the names of their edits; the words that were added; what differs from the mark; families.
+        # The texts that a whole script replaced, with the names of their edits; the words that were added; what differs from the mark; families.
         self.aside, self.added, self.changes = [], [], []  # type: List[Tuple[bytes, Tuple[str, ...]]], List[str], List[Any]
         # The last command if it added a word or took one out.
         self.last_words = ""
@@ -157,8 +157,8 @@ class Bench(Stage):
         return former is not None and new - old <= lines and not (old - new) & lines
 
     def put_aside(self) -> List[str]:
-        """Returns the names of the typed edits that a reload replaced and that no file has."""
-        now, is_filed = self.program.now.text, self.program.now.text == self.file_text
+        """Returns the names of the typed edits that a whole script replaced and that no file has."""
+        now, is_filed = self.program.now.text, not self.is_unsaved(self.program.now.text)
         found = [names for text, names in self.aside if text != now and self.is_unsaved(text) and not (is_filed and self.has_saved(text, now))]
         return list(dict.fromkeys(name for names in found for name in names or ("a part of the script",)))
 
@@ -246,7 +246,7 @@ class Bench(Stage):
 
     def edited(self, edit: Edit, lines: Sequence[str], history: Sequence[Any], had_fault: bool, before_it: Sequence[List[str]]) -> Edit:
         """Completes an accepted edit: what it changed, by the stems before it, if these are known; and what became of the texts before it."""
-        program, before, word = self.program, self.program.now, edit.command
+        program, before, word, is_file = self.program, self.program.now, edit.command, lines[0].startswith("replace ") and edit.command == "replace"
         families = [["families " + self.families]] if self.families else []
         told, steps = program.ask_each([["text", "echo"], ["history"]], has_grace=True)
         text = program.text(told)
@@ -264,7 +264,7 @@ class Bench(Stage):
             # (the program that is there again has made this edit, too)
             there = self.settled(Reply(program.state, [], []))
             edit, changes = edit._replace(reply=there) if there.state == "lost" else edit, program.ask(["changes"])
-        if word == "replace" and " " in lines[0] and not lines[0].startswith("replace " + self.kept.folder):
+        if is_file and not lines[0].startswith("replace " + self.kept.folder):
             # (another file has this text)
             self.read_texts.add(hash(text))
         elif word not in ("reload", "undo", "redo") and text not in (before.text, self.file_text):
@@ -274,7 +274,7 @@ class Bench(Stage):
         found = pairs_of(*pairs)
         figures, self.pairs = (*(self.pairs or found), *found) if found else (), found or self.pairs
         note = self.note_on(word, before, had_fault, done == history)
-        aside = self.note_text(word, before, history, done)
+        aside = self.note_text(word, before, history, done, is_whole=is_file or word == "reload")
         # (of blanks and comments alone the program makes no step)
         if aside is not None:
             self.aside_path = os.path.join(self.kept.room, "aside") if done == history else ""
@@ -282,7 +282,7 @@ class Bench(Stage):
             changes=self.changes, own=rows.between(before_it[0], stems.lines) if before_it and stems.is_done else None,
             pairs=figures, step=step if word in ("undo", "redo") else None,
             note=note, aside=aside, aside_path=self.aside_path if aside is not None else "",
-            step_names=self.of_rescued if word in ("undo", "redo", "replace") and self.rescued == hash((before if word == "undo" else program.now).text) else (),
+            step_names=self.rescued.get(hash((before if word == "undo" else program.now).text), ()) if word in ("undo", "redo", "replace") else (),
         )
 
     def note_on(self, word: str, before: Moment, had_fault: bool, is_not_held: bool) -> str:
@@ -299,39 +299,41 @@ class Bench(Stage):
             return ""
         return "the same script" if before.text == now.text else "the same tokens"
 
-    def note_text(self, word: str, before: Moment, history: Sequence[Any], done: Sequence[Any]) -> Optional[Tuple[str, ...]]:
-        """Notes which texts files have. Returns the names of the typed edits that a reload replaced."""
+    def note_text(self, word: str, before: Moment, history: Sequence[Any], done: Sequence[Any], is_whole: bool) -> Optional[Tuple[str, ...]]:
+        """Notes which texts files have. Returns the names of the typed edits that a whole script replaced: a reload, `replace FILE` or a rescue."""
         text, aside, base, former = self.program.now.text, None, self.base, self.file_text or b""
-        if word not in ("undo", "redo") and hash(text) != self.rescued:
+        if word not in ("undo", "redo") and hash(text) not in self.rescued:
             # (what is typed goes on from what it was typed over, also if there was the same text before)
             self.bases[hash(text)] = base
         self.base = self.file_text if text == self.file_text else self.bases.setdefault(hash(text), base)
         if word == "undo" and before.text != text:
             # (what was replaced and undo takes back, the author drops)
             self.aside = [(other, names) for other, names in self.aside if other != before.text]
-        if word == "undo" and hash(before.text) == self.rescued and before.text != text:
-            self.undone = before.text, self.of_rescued
+        if word == "undo" and hash(before.text) in self.rescued and before.text != text:
+            self.undone = before.text, self.rescued[hash(before.text)]
         elif word != "undo" and self.undone[0] in (text, before.text):
             self.undone = b"", ()
         if word == "reload":
             self.note_file()
-            names, was_saved = self.names(before.text, history), hash(before.text) in self.replaced
-            is_aside = before.text != text and self.is_unsaved(before.text) and not self.has_saved(before.text, text)
-            lost = self.lost(names, before.text) if is_aside else ()
-            if is_aside and (lost or not (names and was_saved)):
-                aside = lost or names
+            self.read_texts.add(hash(text))
+        # (what SCRIPT has, replace FILE does not drop)
+        was_saved, is_typed = before.text == former, before.text != text and hash(before.text) not in self.read_texts
+        if is_whole and is_typed and not (was_saved and word == "replace") and not self.has_saved(before.text, text):
+            names = self.names(before.text, history)
+            lost = self.lost(names, before.text, was_saved)
+            if lost or not (names and was_saved):
+                aside = lost or tuple(names)
                 self.aside.append((before.text, aside))
                 self.replaced.setdefault(hash(before.text), former)
                 self.kept.keep("aside.base", base or b"")
                 self.kept.keep("aside", before.text)
-            self.read_texts.add(hash(text))
         self.keep(done)
         return aside
 
-    def lost(self, names: Sequence[str], before: bytes) -> Tuple[str, ...]:
-        """Returns those of the names of typed definitions that are other ones now. What was saved is lost only if it is as SCRIPT had it before: an
+    def lost(self, names: Sequence[str], before: bytes, was_saved: bool) -> Tuple[str, ...]:
+        """Returns those of the names of typed definitions that are other ones now. What SCRIPT had is lost only if it is as SCRIPT had it before: an
         editor may have gone on from it."""
-        places, was_saved, former = self.places(), hash(before) in self.replaced, list(self.replaced.values())
+        places, former = self.places(), list(self.replaced.values())
         now = {name: places.text[int(row.start) : int(row.end)] for name, row in places.definitions.items()}
         is_back = {name: not was_saved or any(part in text for text in former) for name, part in now.items()}
         return tuple(name for name in names if name not in now or now[name] not in before and is_back[name])
@@ -344,7 +346,7 @@ class Bench(Stage):
             self.kept.keep("text", text)
             self.kept.note("about", ["text", *(self.names(text, history) or ["a part of the script"])])
         elif self.undone[0] and not aside:
-            self.kept.keep("text.base", self.bases.get(self.rescued) or b"")
+            self.kept.keep("text.base", self.bases.get(hash(self.undone[0])) or b"")
             self.kept.keep("text", self.undone[0])
             self.kept.note("about", ["text", *self.undone[1]])
         else:
@@ -352,14 +354,14 @@ class Bench(Stage):
 
     def names(self, text: bytes, history: Sequence[Any]) -> Sequence[str]:
         """Returns the names of the definitions that were typed."""
-        return typed_names(history) or (self.of_rescued if hash(text) == self.rescued else ())
+        return typed_names(history) or self.rescued.get(hash(text), ())
 
     def note_rescue(self, path: str, edits: Sequence[str], base: Optional[bytes]) -> Optional[List[str]]:
         """Notes a text that is going to be rescued. If SCRIPT had another text when it was typed, returns what it has now and had not then."""
-        self.rescued, self.of_rescued = hash(read_file(path)), edits
+        self.rescued[hash(read_file(path))] = tuple(edits)
         if base is None or base == self.file_text:
             return None
-        self.bases[self.rescued] = base
+        self.bases[hash(read_file(path))] = base
         places = self.places()
         return [name for name, row in places.definitions.items() if places.text[int(row.start) : int(row.end)] not in base]
 

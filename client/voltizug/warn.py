@@ -2,10 +2,11 @@
 import re
 import sys
 import unicodedata
-from typing import Any, Callable, Iterable, List, Optional, Sequence, Tuple
+from collections import Counter
+from typing import Any, Callable, Container, Iterable, List, Optional, Sequence, Tuple
 
 from .kept import read_file
-from .layout import named
+from .layout import counted, in_quotes, named, short
 from .places import BOM
 from .program import LONGEST, encoded
 from .words import MISREAD, converting, in_shell
@@ -37,6 +38,8 @@ OF_WORDS: Sequence[Kind] = (
     (re.compile(r"^\.$", re.M).search, "a single point. In a session it ends the list; here it is a word", ""),
     (re.compile(r"^.{256}", re.M).search, "more than 255 characters, which no word may have", ""),
 )
+# What is said of words of families that are not in the vocabulary: before the figures that have their number, and at the start.
+UNKNOWN = {False: "The first word that is not in the vocabulary is {word}.", True: "{count} of {file} {are} not in the vocabulary, as {word}."}
 # By a sign between words what is said of it, and how a column of a table is taken.
 BETWEEN = (
     (" ", "a blank inside", "awk '{{print $%d}}'"), ("\t", "a tab inside", "cut -f%d"),
@@ -109,6 +112,25 @@ def on_file(path: str, is_list: bool) -> List[str]:
         return [*said, name + ": this looks like a script, and each of its lines is a word here"]
     said += [line for kind in OF_WORDS for line in on_lines(name, path, text, kind)] + on_several(name, path, text) + on_repeats(name, path, text)
     return said + [name + ": no words. Write one word on each line; add WORD adds one"] * (not text.strip("\n"))
+
+
+def on_families(path: str, there: Container[str], is_start: bool = False) -> Tuple[List[str], bool]:
+    """Returns the warnings on a file of families over the words that are there, and whether it has no families at all."""
+    data = read_file(path) or b""
+    text, name = data.decode("utf-8", "surrogateescape"), short(path)
+    if not text.strip() or re.search(r"\bexternals\s*\(", text):
+        return ["%s %s: a family is a line of words that belong together." % (name, "looks like a script" if text.strip() else "has no words")], True
+    mark = ["%s begins with a byte order mark, which is part of its first word." % name] * data.startswith(BOM)
+    return mark + on_lines(named(path), path, text, DECOMPOSED) + of_families(text, there, name * is_start), False
+
+
+def of_families(text: str, there: Container[str], file: str = "") -> List[str]:
+    """Returns what is said of words of families, at the start of a file, that are not there, and of the first word that is in two of them."""
+    found = Counter(word for line in text.split("\n") for word in dict.fromkeys(filter(None, re.split("[ \t\r,]+", line))))
+    others = [word for word in found if word not in there]
+    count, are = counted(len(others), "word"), "is" if len(others) == 1 else "are"
+    said = [UNKNOWN[bool(file)].format(count=count, file=file, are=are, word=in_quotes(word)) for word in others[:1]]
+    return said + ["%s is in more than one family, and counts in the first one." % in_quotes(word) for word, count in found.items() if count > 1][:1]
 
 
 def warnings_on(script: str, words: Optional[str] = None) -> List[str]:

@@ -112,15 +112,17 @@ class Desk:
             say("To see stems: add WORD, or start with a file of words: %s work SCRIPT WORDS" % CALLED)
         for path in self.paths:
             say("" if os.path.isfile(path) else "%s is no regular file, so work reads it once." % short(path))
-        say(self.first_families(), sizes(figures))
+        say(*self.first_families(), sizes(figures))
 
-    def first_families(self) -> str:
-        """Has the families of the command line compared from now on. Returns their figures, or why there are none."""
+    def first_families(self) -> List[str]:
+        """Has the families of the command line compared from now on. Returns the warnings on them, and their figures or why there are none."""
         path = self.options.families
-        if not path:
-            return ""
-        figures = self.unread_families(path) or layout.families_line(self.bench.pairs * 2)
-        return figures or "families: no line of %s has two words of the vocabulary" % short(path)
+        why = self.unread_families(path) if path else ""
+        if why or not path:
+            return [why]
+        figures = layout.families_line(self.bench.pairs * 2) or "families: no line of %s has two words of the vocabulary" % short(path)
+        said, is_odd = warn.on_families(path, self.bench.by_word(), is_start=True)
+        return said + [figures] * (not is_odd)
 
     def unread_families(self, path: str) -> str:
         """Has the families of a file compared. Returns why that is refused; nothing if it is not."""

@@ -1,6 +1,5 @@
 """What is shown for replies that have more than their rows."""
 import re
-from collections import Counter
 from typing import Any, List, Sequence, Tuple
 
 from .. import kept, layout, lints, loops, reports, rows, warn, words
@@ -8,7 +7,7 @@ from ..bench import typed_edits
 from ..conditions import with_tests
 from ..layout import short
 from ..near import composed, meant
-from ..places import BOM, readable
+from ..places import readable
 from ..program import encoded
 from .desk import Desk
 from .keys import Broken
@@ -70,20 +69,10 @@ class Replies(Desk):
         return ["%snot in %s:" % (by, self.bench.script)] + shown
 
     def reply_families(self, path: str, lines: Sequence[str]) -> List[str]:
-        mark = ["%s begins with a byte order mark, which is part of its first word." % short(path)] * (kept.read_file(path) or b"").startswith(BOM)
-        text = (kept.read_file(path) or b"").decode("utf-8", "surrogateescape")
-        if not text.strip() or re.search(r"\bexternals\s*\(", text):
-            return ["%s %s: a family is a line of words that belong together." % (short(path), "looks like a script" if text.strip() else "has no words")]
+        said, is_odd = warn.on_families(path, self.bench.by_word())
         others = self.bench.families if self.bench.families not in ("", path) else ""
         then = ["After edits the figures are of %s." % short(others)] * bool(others)
-        return mark + warn.on_lines(layout.named(path), path, text, warn.DECOMPOSED) + self.of_families(text) + reports.families(lines) + then
-
-    def of_families(self, text: str) -> List[str]:
-        """Returns the first word of families that is not in the vocabulary, and the first one that is in two of them."""
-        there, families = self.bench.by_word(), [dict.fromkeys(filter(None, re.split("[ \t\r,]+", line))) for line in text.split("\n")]
-        found = Counter(word for family in families for word in family)
-        first = ["The first word that is not in the vocabulary is %s." % layout.in_quotes(word) for word in found if word not in there][:1]
-        return first + ["%s is in more than one family, and counts in the first one." % layout.in_quotes(word) for word, count in found.items() if count > 1][:1]
+        return said if is_odd else said + reports.families(lines) + then
 
     def reply_why(self, word: str, lines: Sequence[str]) -> List[str]:
         figures, events, _ = self.run_of(word, lines)

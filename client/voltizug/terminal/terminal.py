@@ -308,7 +308,7 @@ class Terminal(Replies):
         elif block[0] == "families":
             reply = self.bench.ask(*block, ".")
             if self.is_done(reply, "families"):
-                self.screen.write(self.of_families("\n".join(block[1:])) + reports.families(reply.lines), is_report=True)
+                self.screen.write(warn.of_families("\n".join(block[1:]), self.bench.by_word()) + reports.families(reply.lines), is_report=True)
         elif not self.edit([*block, "."]):
             self.editor.remember(*block, ".")
 
@@ -340,10 +340,10 @@ class Terminal(Replies):
         doubts, aside = [self.unkept_words(", quit again drops {}")], in_words(bench.put_aside() or [""], "and", 5)
         if bench.is_unsaved(bench.program.now.text):
             doubts.insert(0, "The edits that you typed are in no file: save FILE keeps them, quit again drops them.")
-        elif aside:
+        if aside:
             how = "replace " + bench.aside_path if bench.aside_path else "undo, once or more,"
-            doubts.insert(0, "A reload replaced what you typed (%s), and no file has all of it: %s goes back to it, quit again drops it." % (aside, how))
-        elif bench.undone[0]:
+            doubts.insert(-1, "What you typed is replaced (%s), and no file has all of it: %s goes back to it, quit again drops it." % (aside, how))
+        elif bench.undone[0] and len(doubts) == 1:
             doubts.insert(0, "What was rescued is taken back (%s), and no file has it: redo brings it back, quit again drops it." % in_words(bench.undone[1], "and", 5))
         return self.is_sure("quit", *doubts)
 
