@@ -6,8 +6,8 @@ use Rattle.sbl_work.specs.WholeWork.{IsWholeWork}
 use Rattle.sbl_work.proofs.WholeFacts.{whole_end, whole_fault}
 use Rattle.sbl_work.proofs.serving.work_on.Goals as goal
 
-pub returns-clause-works : goal.returns-clause-works
-returns-clause-works g c = λ none.
+pub returns-in-Err-clause-works : goal.returns-in-Err-clause-works
+returns-in-Err-clause-works g c = λ none.
     let read = g.R.Source in
     let write = g.W.Sink in
     let served = c.serve_bench-served in
