@@ -4,7 +4,7 @@ use sbl_saving::{Failed, Find, Folder, MemoryFolder, replace_file};
 use std::alloc::{AllocError, Global};
 use std::process::Abort;
 use std::test::Fail;
-use test_support::{field, is_as_row, number};
+use test_support::{field, is_as_row};
 
 const OLD: &[u8] = b"old";
 
@@ -100,7 +100,8 @@ fn take_row(alloc: Global, row: &str) -> Result<String, AllocError> {
         "old" => Some(OLD.to_vec(alloc)?),
         _ => None,
     };
-    let mut folder = MemoryFolder::new(alloc, target, number(row, 1) as u32)?;
+    let failing: u32 = field(row, 1).parse().unwrap_or(0);
+    let mut folder = MemoryFolder::new(alloc, target, failing)?;
     let text = take_steps(alloc, &mut folder, field(row, 2));
     drop(folder);
     text
