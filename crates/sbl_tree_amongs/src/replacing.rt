@@ -4,38 +4,45 @@ ghost use Rattle.std.specs.Prelude.{◌≡◌, ◌-◌, List, IfOk};
 ghost use Rattle.sbl_ast.specs.Counts.{count_amongs, count_in_among, count_in_groups, count_in_others, count_in_rows};
 ghost use Rattle.sbl_tree_amongs.specs.Amongs.{FitsAt, amongs_of_body, put_in_among, put_in_body};
 ghost use Rattle.sbl_tree_amongs.specs.Amongs as spec;
+ghost use Rattle.sbl_tree_amongs.specs.GroupParts.{put_in_group};
 ghost use Rattle.sbl_ast.specs.Places.{AreShallow};
 ghost use Rattle.sbl_ast.specs.Texts.{body, places_in};
 ghost use Rattle.sbl_ast.specs.View.{view_among, view_command, view_row};
-ghost use Rattle.sbl_ast.specs.inside.ViewParts.{view_groups, view_others, view_rows};
+ghost use Rattle.sbl_ast.specs.inside.ViewParts.{view_group, view_groups, view_others, view_rows};
 ghost use Rattle.sbl_ast.specs.Tree as trees;
 
-use crate::copies::{copy_among, copy_command, copy_entries, copy_entry, copy_expression};
+use crate::copies::{
+    box_command, copy_among, copy_command, counted, limited, with_bare, with_strings,
+};
 use sbl_ast::{Among, Command, Group, NextCommand, RowOfCommands};
 use std::alloc::{AllocError, Global};
 
 /// A copy, and the number that is left after its amongs.
 type Copied<T> = Result<(T, u64), AllocError>;
 
-/// Copies each of these parts, with the number that is left after those before it.
+/// Copies each of these parts, with the number that is left after those before it. The copies so far are dropped by a call,
+/// which the prover does not take apart.
 macro_rules! put_in_each {
     ($alloc:expr; $part:ident in $parts:ident, $at:ident => $rest:ident; $copy:ident: $put:expr => $pushed:expr) => {{
         let mut copies = Vec::new($alloc);
         let mut $rest = $at;
         for $part in $parts {
-            let ($copy, after) = $put?;
-            copies.push($pushed)?;
-            $rest = after;
+            match $put {
+                Ok(($copy, after)) => match copies.push($pushed) {
+                    Ok(()) => $rest = after,
+                    Err(refused) => {
+                        drop(copies);
+                        return Err(refused.into());
+                    }
+                },
+                Err(refused) => {
+                    drop(copies);
+                    return Err(refused);
+                }
+            }
         }
         Ok((copies, $rest))
     }};
-}
-
-/// Puts a command into a box. It is dropped here if an allocation fails, so no caller has to prove that again.
-fn box_command(alloc: Global, command: Command) -> Result<Box<Command>, AllocError>
-    ensures { IfOk result (λ b. b.value ≡ command) }
-{
-    Ok(Box::new(alloc, command)?)
 }
 
 /// The among that is put in the place of another one.
@@ -64,17 +71,18 @@ impl Replacement<'_> {
                 Ok((Command::Prefixed(*prefix, inner), rest))
             }
             Command::Counted(count, times, inner) => {
-                let times = copy_expression(self.alloc, times)?;
                 let (inner, rest) = self.put_in_command(inner, at)?;
-                let inner = box_command(self.alloc, inner)?;
-                Ok((Command::Counted(*count, times, inner), rest))
+                Ok((counted(self.alloc, *count, times, inner)?, rest))
             }
             Command::SetLimit(limit, inner) => {
                 let (limit, rest) = self.put_in_command(limit, at)?;
-                let limit = box_command(self.alloc, limit)?;
-                let (inner, rest) = self.put_in_command(inner, rest)?;
-                let inner = box_command(self.alloc, inner)?;
-                Ok((Command::SetLimit(limit, inner), rest))
+                match self.put_in_command(inner, rest) {
+                    Ok((inner, rest)) => Ok((limited(self.alloc, limit, inner)?, rest)),
+                    Err(refused) => {
+                        drop(limit);
+                        Err(refused)
+                    }
+                }
             }
             Command::Among(one) => {
                 let (one, rest) = self.put_in_one(one, at)?;
@@ -100,16 +108,16 @@ impl Replacement<'_> {
                 (Some(rows), rest)
             }
         };
-        let (groups, rest) = self.put_in_groups(&one.groups, rest)?;
-        let bare = copy_entries(self.alloc, &one.bare)?;
-        Ok((
-            Among {
-                starter,
-                groups,
-                bare,
-            },
-            rest,
-        ))
+        match self.put_in_groups(&one.groups, rest) {
+            Ok((groups, rest)) => {
+                let put = with_bare(self.alloc, starter, groups, &one.bare)?;
+                Ok((put, rest))
+            }
+            Err(refused) => {
+                drop(starter);
+                Err(refused)
+            }
+        }
     }
 
     #[cycle(put_among)]
@@ -117,20 +125,17 @@ impl Replacement<'_> {
         ensures put { IfOk result (λ x. (bare : List trees.Entry) → view_groups x.0.items bare ≡ spec.put_in_groups (view_groups groups.now.items bare) at (view_among self.now.among.now)) }
         ensures rest { IfOk result (λ x. (bare : List trees.Entry) → x.1 ≡ at - count_in_groups (view_groups groups.now.items bare)) }
     {
-        let mut copies = Vec::new(self.alloc);
-        let mut rest = at;
-        for group in groups {
-            let first = copy_entry(self.alloc, &group.first)?;
-            let others = copy_entries(self.alloc, &group.others)?;
-            let (rows, after) = self.put_in_rows(&group.rows, rest)?;
-            copies.push(Group {
-                first,
-                others,
-                rows,
-            })?;
-            rest = after;
-        }
-        Ok((copies, rest))
+        put_in_each!(self.alloc; group in groups, at => rest; copy: self.put_in_group(group, rest) => copy)
+    }
+
+    #[cycle(put_among)]
+    fn put_in_group(&self, group: &Group, at: u64) -> Copied<Group>
+        ensures put { IfOk result (λ x. view_group x.0 ≡ put_in_group (view_group group.now) at (view_among self.now.among.now)) }
+        ensures rest { IfOk result (λ x. x.1 ≡ at - count_in_rows (view_group group.now).rows) }
+    {
+        let (rows, rest) = self.put_in_rows(&group.rows, at)?;
+        let put = with_strings(self.alloc, group, rows)?;
+        Ok((put, rest))
     }
 
     #[cycle(put_among)]
@@ -147,8 +152,13 @@ impl Replacement<'_> {
         ensures rest { IfOk result (λ x. x.1 ≡ at - count_amongs (view_row row.now).0 - count_in_others (view_row row.now).1) }
     {
         let (first, rest) = self.put_in_command(&row.first, at)?;
-        let (others, rest) = self.put_after(&row.others, rest)?;
-        Ok((RowOfCommands { first, others }, rest))
+        match self.put_after(&row.others, rest) {
+            Ok((others, rest)) => Ok((RowOfCommands { first, others }, rest)),
+            Err(refused) => {
+                drop(first);
+                Err(refused)
+            }
+        }
     }
 
     #[cycle(put_among)]
