@@ -175,7 +175,7 @@ pub(crate) fn box_command(alloc: Global, command: Command) -> Result<Box<Command
 }
 
 /// Makes a command of a word, a copy of a number of times, and a command.
-pub(crate) fn counted(
+pub(crate) fn counted_command(
     alloc: Global,
     count: Count,
     times: &Expression,
@@ -194,7 +194,11 @@ pub(crate) fn counted(
 }
 
 /// Makes a `setlimit` of its two commands.
-pub(crate) fn limited(alloc: Global, limit: Command, inner: Command) -> Result<Command, AllocError>
+pub(crate) fn limited_command(
+    alloc: Global,
+    limit: Command,
+    inner: Command,
+) -> Result<Command, AllocError>
     ensures { IfOk result (λ c. view_command c ≡ trees.setlimit_ (view_command limit) (view_command inner)) }
 {
     match Box::new(alloc, limit) {
@@ -231,7 +235,7 @@ pub fn copy_command(alloc: Global, command: &Command) -> Result<Command, AllocEr
             Ok(Command::Prefixed(*prefix, inner))
         }
         Command::Counted(count, times, inner) => {
-            counted(alloc, *count, times, copy_command(alloc, inner)?)
+            counted_command(alloc, *count, times, copy_command(alloc, inner)?)
         }
         Command::Move(word, place) => { Ok(Command::Move(*word, copy_expression(alloc, place)?)) }
         Command::Named(word, name) => Ok(Command::Named(*word, copy_name(alloc, name)?)),
@@ -241,7 +245,7 @@ pub fn copy_command(alloc: Global, command: &Command) -> Result<Command, AllocEr
         Command::SetLimit(limit, inner) => {
             let limit = copy_command(alloc, limit)?;
             match copy_command(alloc, inner) {
-                Ok(inner) => limited(alloc, limit, inner),
+                Ok(inner) => limited_command(alloc, limit, inner),
                 Err(refused) => {
                     drop(limit);
                     Err(refused)

@@ -12,7 +12,8 @@ ghost use Rattle.sbl_ast.specs.inside.ViewParts.{view_group, view_groups, view_o
 ghost use Rattle.sbl_ast.specs.Tree as trees;
 
 use crate::copies::{
-    box_command, copy_among, copy_command, counted, limited, with_bare, with_strings,
+    box_command, copy_among, copy_command, counted_command, limited_command, with_bare,
+    with_strings,
 };
 use sbl_ast::{Among, Command, Group, NextCommand, RowOfCommands};
 use std::alloc::{AllocError, Global};
@@ -72,12 +73,12 @@ impl Replacement<'_> {
             }
             Command::Counted(count, times, inner) => {
                 let (inner, rest) = self.put_in_command(inner, at)?;
-                Ok((counted(self.alloc, *count, times, inner)?, rest))
+                Ok((counted_command(self.alloc, *count, times, inner)?, rest))
             }
             Command::SetLimit(limit, inner) => {
                 let (limit, rest) = self.put_in_command(limit, at)?;
                 match self.put_in_command(inner, rest) {
-                    Ok((inner, rest)) => Ok((limited(self.alloc, limit, inner)?, rest)),
+                    Ok((inner, rest)) => Ok((limited_command(self.alloc, limit, inner)?, rest)),
                     Err(refused) => {
                         drop(limit);
                         Err(refused)
