@@ -62,15 +62,25 @@ class Real(OverProgram):
         self.assertEqual([row.word for row in rows.outcomes(program.ask(["stems"]).lines)], ["cats", "apples"])
 
     def test_what_an_edit_changed_is_as_the_program_says_it(self):
-        """Over classes that are split, merged and renamed, also in part, refused runs, and stems with a comma, a quote or a line feed."""
+        """Over classes that are split, merged and renamed, also in part, refused runs, and empty stems."""
+        self.compare_changes("a\nb\nab\nba\naa\nbb\nabc\ncba\n", [
+            "true", "[ hop 1 ] <- 'b'", "do ( [ 'a' ] delete )", "'b' $ p = 1 / 0", "goto 'b' [ hop 1 ] delete", "[ 'a' ] delete", "'a' ] delete",
+            "tolimit <+ 'x'", "[ tolimit ] <- 'a' or true", "$ p = 1 / 0", "do ( [ 'a' ] <- 'b' 'c' ) do ( [ 'b' ] <- 'a' 'a' )"])
+
+    def test_what_an_edit_changed_if_rows_are_quoted(self):
+        """Stems with a comma, a quote or a line feed."""
+        self.compare_changes("a\nb\nab\nba\naa\nbb\nabc\nb,c\nc\"d\ncba\n", [
+            "true", "[ hop 1 ] <- 'b'", "do ( [ 'a' ] delete )", "'b' $ p = 1 / 0", "[ 'a' ] <- 'b,'", "goto 'b' [ hop 1 ] delete", "tolimit <+ 'x'",
+            "[ hop 1 ] <- '{U+A}'", "'a' ] delete", "[ tolimit ] <- 'a' or true", "do ( [ 'a' ] <- 'b' 'c' ) do ( [ 'b' ] <- 'a' 'a' )"])
+
+    def compare_changes(self, words, bodies):
         text = "externals ( stem ) integers ( p ) define stem as ( %s )"
-        program = self.begin(text % "true", "a\nb\nab\nba\naa\nbb\nabc\nb,c\nc\"d\ncba\n")
-        bodies = ["true", "[ hop 1 ] <- 'b'", "do ( [ 'a' ] delete )", "'b' $ p = 1 / 0", "[ 'a' ] <- 'b,'", "goto 'b' [ hop 1 ] delete", "tolimit <+ 'x'",
-                  "[ hop 1 ] <- '{U+A}'", "'a' ] delete", "[ tolimit ] <- 'a' or true", "do ( [ 'a' ] <- 'b' 'c' ) do ( [ 'b' ] <- 'a' 'a' )"]
-        for i, body in enumerate(bodies * 3):
+        program = self.begin(text % "true", words)
+        for i in range(3 * len(bodies)):
             before = program.ask(["stems"]).lines
             self.assertTrue(program.ask(["mark"]).is_done)
-            self.assertEqual(program.ask(["replace", "stringescapes {}", text % bodies[i * 4 % len(bodies)], "."]).lines, ["ok"])
+            body = bodies[i * 4 % len(bodies)]
+            self.assertEqual(program.ask(["replace", "stringescapes {}", text % body, "."]).lines, ["ok"])
             changes, stems = program.ask_each([["changes"], ["stems"]])
             self.assertEqual(rows.between(before, stems.lines), rows.read("changes", changes.lines), (i, body))
 

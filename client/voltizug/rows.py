@@ -1,7 +1,8 @@
 """The rows of replies as named tuples, by the tables of docs/REFERENCE.md."""
 import csv
 from collections import namedtuple
-from itertools import compress, groupby
+from itertools import chain, compress, groupby
+from operator import ne, not_
 from typing import Any, Dict, Iterable, List, NamedTuple, Set, Tuple
 
 PLACE = " start end line column"
@@ -57,16 +58,19 @@ def read(report: str, lines: Iterable[str]) -> List[Any]:
 
 def between(before: List[str], after: List[str]) -> List[Any]:
     """Returns the rows of `changes` from one reply to `stems` to another one over the same words."""
+    still = set()  # type: Set[str]
     if '"' not in "".join(before) + "".join(after):
-        # (each row is a line: only those that differ, and those with a stem of these, are read)
-        ends = {line.rpartition(",")[2] for pair in zip(before, after) if pair[0] != pair[1] for line in pair}
-        is_read = [old != new or old.rpartition(",")[2] in ends for old, new in zip(before, after)]
-        before, after = list(compress(before, is_read)), list(compress(after, is_read))
+        # (each row is a line, which ends with its stem: only those that differ are read)
+        differs = list(map(ne, before, after))
+        still = {line.rpartition(",stem,")[2] for line in compress(before, map(not_, differs))}
+        before, after = list(compress(before, differs)), list(compress(after, differs))
     make, pairs = KINDS["changes"], list(zip(rows_of(before), rows_of(after)))
     changed = [make["changed"]("changed", *old, *new[1:]) for old, new in pairs if old != new]
-    to, of = {}, {}  # type: Dict[str, Set[str]], Dict[str, Set[str]]
     # (a word whose run is refused is in no class)
-    for old, new in ((old[2], new[2]) for old, new in pairs if old[1] == new[1] == "stem"):
+    moves = {(old[2], new[2]) for old, new in pairs if old[1] == new[1] == "stem"}
+    moves.update((stem, stem) for stem in still.intersection(chain.from_iterable(moves)))
+    to, of = {}, {}  # type: Dict[str, Set[str]], Dict[str, Set[str]]
+    for old, new in moves:
         to.setdefault(old, set()).add(new)
         of.setdefault(new, set()).add(old)
     split = [make["split"]("split", old, tuple(sorted(news))) for old, news in sorted(to.items()) if len(news) > 1]
