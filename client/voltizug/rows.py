@@ -2,7 +2,7 @@
 import csv
 from collections import namedtuple
 from itertools import chain, compress, groupby
-from operator import ne, not_
+from operator import itemgetter, methodcaller, ne, not_
 from typing import Any, Dict, Iterable, List, NamedTuple, Set, Tuple
 
 PLACE = " start end line column"
@@ -47,6 +47,11 @@ def rows_of(lines: Iterable[str]) -> List[List[str]]:
     return list(csv.reader(line + "\n" for line in lines))
 
 
+def fields_of(lines: Iterable[str]) -> List[List[str]]:
+    """Returns the rows in lines without a quote."""
+    return [line.split(",") for line in lines]
+
+
 def read(report: str, lines: Iterable[str]) -> List[Any]:
     """Returns the rows of a report as tuples with the fields of its table. A row of a kind that is not in the table is left out."""
     table, kinds = TABLE[report], KINDS[report]
@@ -58,13 +63,13 @@ def read(report: str, lines: Iterable[str]) -> List[Any]:
 
 def between(before: List[str], after: List[str]) -> List[Any]:
     """Returns the rows of `changes` from one reply to `stems` to another one over the same words."""
-    still = set()  # type: Set[str]
+    make, read, still = KINDS["changes"], rows_of, set()  # type: Any, Any, Set[str]
     if '"' not in "".join(before) + "".join(after):
         # (each row is a line, which ends with its stem: only those that differ are read)
-        differs = list(map(ne, before, after))
-        still = {line.rpartition(",stem,")[2] for line in compress(before, map(not_, differs))}
+        differs, read = list(map(ne, before, after)), fields_of
+        still = set(map(itemgetter(2), map(methodcaller("rpartition", ",stem,"), compress(before, map(not_, differs)))))
         before, after = list(compress(before, differs)), list(compress(after, differs))
-    make, pairs = KINDS["changes"], list(zip(rows_of(before), rows_of(after)))
+    pairs = list(zip(read(before), read(after)))
     changed = [make["changed"]("changed", *old, *new[1:]) for old, new in pairs if old != new]
     # (a word whose run is refused is in no class)
     moves = {(old[2], new[2]) for old, new in pairs if old[1] == new[1] == "stem"}
