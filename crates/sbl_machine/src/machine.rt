@@ -354,16 +354,11 @@ impl<S: AmongSearch> Machine<S> {
     }
 
     // Starts a run in this state, with what was touched before. Returns `AllocError` if an allocation fails.
-    fn restart_touched(
-        &self,
-        state: &mut State,
-        word: &[char],
-        limit: u32,
-    ) -> Result<(), AllocError>
+    fn begin(&self, state: &mut State, word: &[char], limit: u32) -> Result<(), AllocError>
         requires { length word.now ≤ max_word_length }
         ensures { (tables : ℕ → Listing) → IfOk result (λ _. state.new ≡ record (start (program_of tables self.now.code) word.now limit) { touched = state.old.touched }) }
     {
-        state.restart_touched(self.code.program(), word, limit)
+        state.begin(self.code.program(), word, limit)
     }
 
     // Calls the external.
@@ -409,7 +404,7 @@ impl<S: AmongSearch> Machine<S> {
         ensures outcome { (script : Source) → IsMachineOf S S.entries S.mode self.now script → IfOk result (λ ended. outcome_of ended.outcome ≡ run_of script word.now limit) }
         ensures used { (script : Source) → IsMachineOf S S.entries S.mode self.now script → IfOk result (λ ended. ended.used ≡ used_of script word.now limit) }
     {
-        self.restart_touched(state, word, limit)?;
+        self.begin(state, word, limit)?;
         let end = self.call_external(state);
         end_of(end, limit, state, stem)
     }

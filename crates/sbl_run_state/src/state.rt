@@ -114,18 +114,13 @@ impl State {
         ensures { (tables : ℕ → Listing) → IfOk result (λ _. self.new ≡ start (program_of tables program.now) word.now steps) }
     {
         self.touched.clear();
-        self.restart_touched(program, word, steps)
+        self.begin(program, word, steps)
     }
 
     /// Starts a run as `restart` does, but keeps what was touched before. A run that is not asked what it touches then records only
     /// what no run before it touched. Returns `AllocError` if an allocation fails.
     #[inline(always)]
-    pub fn restart_touched(
-        &mut self,
-        program: &Program,
-        word: &[char],
-        steps: u32,
-    ) -> Result<(), AllocError>
+    pub fn begin(&mut self, program: &Program, word: &[char], steps: u32) -> Result<(), AllocError>
         requires { length word.now ≤ max_word_length }
         ensures { (tables : ℕ → Listing) → IfOk result (λ _. self.new ≡ record (start (program_of tables program.now) word.now steps) { touched = self.old.touched }) }
     {

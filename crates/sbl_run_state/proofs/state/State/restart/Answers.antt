@@ -8,4 +8,4 @@ use Rattle.sbl_run_state.proofs.state.State.restart.Goals as goal
 pub returns : goal.returns
 returns c tables =
     let touching : _ → State = λ ts. record (start (program_of tables c.args.program.now) c.args.word.now c.args.steps) { touched = ts } in
-    IfOk-equal c.restart_touched.result _ _ _ (c.restart_touched.ensures tables) (ap touching c.clear.ensures)
+    IfOk-equal c.begin.result _ _ _ (c.begin.ensures tables) (ap touching c.clear.ensures)
