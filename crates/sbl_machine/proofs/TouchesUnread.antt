@@ -7,7 +7,7 @@ use Rattle.sbl_ast.specs.declared.mode.Mode.TheVariants.{Forward, Backward}
 use Rattle.sbl_program.specs.declared.node.Candidate.{Candidate}
 use Rattle.sbl_program.specs.AmongStrings.{Listing}
 use Rattle.sbl_program.specs.Listing.{fits_at}
-use Rattle.sbl_program.specs.Actions.{acts, test_grouping}
+use Rattle.sbl_program.specs.Actions.{acts}
 use Rattle.sbl_program.specs.Arithmetic.{characters, value, changed_value}
 use Rattle.sbl_program.specs.Program as programs
 use Rattle.sbl_program.specs.Run as run
@@ -18,8 +18,8 @@ use Rattle.sbl_ast.specs.Source.{Source}
 use Rattle.sbl_machine.proofs.SoundRuns.{same_run}
 use Rattle.sbl_machine.specs.NumberedScript.{numbered_script}
 use Rattle.sbl_semantics.specs.Outcome.{outcome_at, run_of, used_at, used_of}
-use Rattle.sbl_semantics.specs.Choices.{choice, take_none, take_string, touch_among}
-use Rattle.sbl_semantics.specs.Control.{turns, times, count_of, seeks, limits, limit_here, restore_limit, backwards_from, backwards_end, with_group, pay_first, enter, leave, back_in}
+use Rattle.sbl_semantics.specs.Choices.{choice, take_string, touch_among}
+use Rattle.sbl_semantics.specs.Control.{turns, times, count_of, seeks, limits, limit_here, restore_limit, backwards_from, backwards_end, with_group, pay_first, enter}
 use Rattle.sbl_semantics.specs.Fitting.{read_as}
 use Rattle.sbl_semantics.specs.Moves.{match, one_of, next, hop, at_limit, at_mark, to_mark, touch_grouping}
 use Rattle.sbl_semantics.specs.inside.MoveParts.{next_is}
@@ -28,7 +28,6 @@ use Rattle.sbl_semantics.specs.Slices.{is_slice, replace_slice, replace, keep, i
 use Rattle.sbl_semantics.specs.State.{State, Ending, Signals, Stops, Doing, ahead, room, after, then_on, pay, at_place, at_difference, to_limit, saved_cursor, put_back, step_over, place_after}
 use Rattle.sbl_semantics.specs.Touches.{with_touch}
 use Rattle.sbl_semantics.specs.declared.cursor.SavedCursor.{SavedCursor}
-use Rattle.sbl_semantics.specs.declared.fault.RunFault.{RunFault}
 use Rattle.sbl_semantics.specs.declared.fault.RunFault.TheVariants as faults
 use Rattle.sbl_semantics.specs.declared.touch.Touch.{Touch}
 use Rattle.sbl_semantics.specs.declared.touch.Touch.TheVariants.{Entered, Searched, Tested}

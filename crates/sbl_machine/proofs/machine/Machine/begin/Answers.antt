@@ -6,6 +6,6 @@ use Rattle.sbl_semantics.specs.State.{State}
 use Rattle.sbl_machine.proofs.machine.Machine.begin.Goals as goal
 
 pub returns : goal.returns
-returns g c = λ tables.
-    let begun : _ → State = λ x. record (start (program_of tables x) c.args.word.now c.args.limit) { touched = c.args.state.old.touched } in
-    IfOk-equal c.begin.result _ _ _ (c.begin.ensures tables) (ap begun c.program.ensures)
+returns g c tables =
+    let begun : State → State = λ s. record s { touched = c.args.state.now.touched } in
+    IfOk-equal c.begin.result _ _ _ (c.begin.ensures tables) (ap begun (ap (λ x. start (program_of tables x) c.args.word.now c.args.limit) c.program.ensures))
