@@ -150,7 +150,7 @@ impl<S: AmongSearch> Machine<S> {
             return Err(RunStop::MeterFull);
         }
         let stem = meter.take_stem(alloc);
-        let ended = self.run_in(alloc, &mut meter.state, stem, word, limit)?;
+        let ended = self.run_unread(alloc, &mut meter.state, stem, word, limit)?;
         meter.count_run();
         Ok(ended)
     }
@@ -299,6 +299,25 @@ impl<S: AmongSearch> Machine<S> {
         Ok(ended)
     }
 
+    // Does what `run_in` does for a run whose touches nobody reads: those of earlier runs stay, so that few are recorded.
+    fn run_unread(
+        &self,
+        alloc: Global,
+        kept: &mut Option<State>,
+        stem: Vec<char>,
+        word: &[char],
+        limit: u32,
+    ) -> Result<RunEnd, AllocError>
+        requires { length word.now ≤ max_word_length }
+        ensures outcome { (script : Source) → IsMachineOf S S.entries S.mode self.now script → IfOk result (λ ended. outcome_of ended.outcome ≡ run_of script word.now limit) }
+        ensures used { (script : Source) → IsMachineOf S S.entries S.mode self.now script → IfOk result (λ ended. ended.used ≡ used_of script word.now limit) }
+    {
+        match kept {
+            Some(state) => self.ended_unread(state, stem, word, limit),
+            None => self.run_first(alloc, kept, stem, word, limit),
+        }
+    }
+
     // Makes a run with its events, in this state.
     fn why_in(
         &self,
@@ -334,6 +353,14 @@ impl<S: AmongSearch> Machine<S> {
         state.restart(self.code.program(), word, limit)
     }
 
+    // Starts a run in this state, with what was touched before. Returns `AllocError` if an allocation fails.
+    fn begin(&self, state: &mut State, word: &[char], limit: u32) -> Result<(), AllocError>
+        requires { length word.now ≤ max_word_length }
+        ensures { (tables : ℕ → Listing) → IfOk result (λ _. state.new ≡ record (start (program_of tables self.now.code) word.now limit) { touched = state.old.touched }) }
+    {
+        state.begin(self.code.program(), word, limit)
+    }
+
     // Calls the external.
     fn call_external(&self, state: &mut State) -> Result<bool, Halt>
         ensures { Follows result state.new (calls (machine_plan S S.entries S.mode self.now) max_levels self.now.code.external Forward state.old) }
@@ -361,6 +388,23 @@ impl<S: AmongSearch> Machine<S> {
         ensures used { (script : Source) → IsMachineOf S S.entries S.mode self.now script → IfOk result (λ ended. ended.used ≡ used_of script word.now limit) }
     {
         self.restart(state, word, limit)?;
+        let end = self.call_external(state);
+        end_of(end, limit, state, stem)
+    }
+
+    // Makes a run whose touches nobody reads.
+    fn ended_unread(
+        &self,
+        state: &mut State,
+        stem: Vec<char>,
+        word: &[char],
+        limit: u32,
+    ) -> Result<RunEnd, AllocError>
+        requires { length word.now ≤ max_word_length }
+        ensures outcome { (script : Source) → IsMachineOf S S.entries S.mode self.now script → IfOk result (λ ended. outcome_of ended.outcome ≡ run_of script word.now limit) }
+        ensures used { (script : Source) → IsMachineOf S S.entries S.mode self.now script → IfOk result (λ ended. ended.used ≡ used_of script word.now limit) }
+    {
+        self.begin(state, word, limit)?;
         let end = self.call_external(state);
         end_of(end, limit, state, stem)
     }

@@ -113,6 +113,17 @@ impl State {
         requires { length word.now ≤ max_word_length }
         ensures { (tables : ℕ → Listing) → IfOk result (λ _. self.new ≡ start (program_of tables program.now) word.now steps) }
     {
+        self.touched.clear();
+        self.begin(program, word, steps)
+    }
+
+    /// Starts a run as `restart` does, but keeps what was touched before. A run that is not asked what it touches then records only
+    /// what no run before it touched. Returns `AllocError` if an allocation fails.
+    #[inline(always)]
+    pub fn begin(&mut self, program: &Program, word: &[char], steps: u32) -> Result<(), AllocError>
+        requires { length word.now ≤ max_word_length }
+        ensures { (tables : ℕ → Listing) → IfOk result (λ _. self.new ≡ record (start (program_of tables program.now) word.now steps) { touched = self.old.touched }) }
+    {
         self.cursor = 0;
         self.left = 0;
         self.beyond = 0;
@@ -125,7 +136,6 @@ impl State {
         reset_strings(&mut self.strings, program.strings);
         self.choices = Choices::none();
         self.routine = 0;
-        self.touched.clear();
         self.events = None;
         self.steps = steps;
         Ok(())

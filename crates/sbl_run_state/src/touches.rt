@@ -141,14 +141,6 @@ impl TouchLog {
         self.add_tested(grouping)
     }
 
-    /// Returns whether the test of a grouping is in the list.
-    #[inline(always)]
-    pub fn is_tested(&self, grouping: usize) -> bool
-        ensures { result ≡ list_any (same_touch (Tested grouping)) self.now }
-    {
-        is_marked(&self.tested, grouping, self.round)
-    }
-
     // Adds a grouping that is not touched yet. Returns `AllocError` as `test` does.
     #[inline(never)]
     fn add_tested(&mut self, grouping: usize) -> Result<(), AllocError>

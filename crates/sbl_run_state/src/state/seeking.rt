@@ -95,27 +95,6 @@ impl State {
         Ok(self.seek_over(past, mode, before, len))
     }
 
-    // Does what `seek_one` does, if a step is left and the grouping is not touched yet.
-    #[inline(never)]
-    fn touch_and_seek(
-        &mut self,
-        past: bool,
-        mode: Mode,
-        classes: &[CharacterClass],
-        number: usize,
-        wanted: bool,
-    ) -> Result<bool, Halt>
-        requires { 0 < self.old.steps }
-        ensures follows { Follows result self.new (seeks (suc self.old.steps) past (pay_first (test_grouping wanted (class_at (map members classes.now) number) number)) mode self.old) }
-        ensures no_more { IfOk result (λ _. self.new.steps ≤ self.old.steps) }
-    {
-        self.touch_grouping(number)?;
-        match mode {
-            Mode::Forward => self.seek_touched::<true>(past, classes, number, wanted),
-            Mode::Backward => self.seek_touched::<false>(past, classes, number, wanted),
-        }
-    }
-
     /// Tests the grouping with this number at the cursor and further on, up to the first t. The cursor stays after the
     /// match if `past`, and else goes before it. The first test touches the grouping, and no later one does.
     #[inline(always)]
@@ -133,9 +112,7 @@ impl State {
         if self.steps() == 0 {
             return Err(Halt::Steps);
         }
-        if !self.touched.is_tested(number) {
-            return self.touch_and_seek(past, mode, classes, number, wanted);
-        }
+        self.touch_grouping(number)?;
         match mode {
             Mode::Forward => self.seek_touched::<true>(past, classes, number, wanted),
             Mode::Backward => self.seek_touched::<false>(past, classes, number, wanted),
