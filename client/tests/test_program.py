@@ -5,7 +5,7 @@ import sys
 import threading
 import time
 
-from voltizug import rows
+from voltizug import differences, rows
 from voltizug.program import BROKEN, DONE, ENDED, LATE, Program
 
 from .kit import FAKE, LOOP, PROGRAM, Case, example
@@ -74,15 +74,25 @@ class Real(OverProgram):
             "[ hop 1 ] <- '{U+A}'", "'a' ] delete", "[ tolimit ] <- 'a' or true", "do ( [ 'a' ] <- 'b' 'c' ) do ( [ 'b' ] <- 'a' 'a' )"])
 
     def compare_changes(self, words, bodies):
-        text = "externals ( stem ) integers ( p ) define stem as ( %s )"
-        program = self.begin(text % "true", words)
-        for i in range(3 * len(bodies)):
-            before = program.ask(["stems"]).lines
+        """Compares what is worked out with the rows of the program, which is marked before each edit; another one is marked at times."""
+        text = "stringescapes {} externals ( stem ) integers ( p ) define stem as ( %s )"
+        program, other = (self.begin(text % "true", words) for _ in range(2))
+        changes, mark, seen = [], None, 0
+        for i in range(6 * len(bodies)):
+            before, edit = program.ask(["stems"]).lines, ["replace", text % bodies[i * 4 % len(bodies)], "."]
+            if i % 13 == 7:
+                self.assertTrue(other.ask(["mark"]).is_done)
+                changes, mark = [], None
+            mark = mark or differences.at_mark(before, changes)
             self.assertTrue(program.ask(["mark"]).is_done)
-            body = bodies[i * 4 % len(bodies)]
-            self.assertEqual(program.ask(["replace", "stringescapes {}", text % body, "."]).lines, ["ok"])
-            changes, stems = program.ask_each([["changes"], ["stems"]])
-            self.assertEqual(rows.between(before, stems.lines), rows.read("changes", changes.lines), (i, body))
+            self.assertEqual([program.ask(edit).lines, other.ask(edit).lines], [["ok"], ["ok"]])
+            own, stems = program.ask_each([["changes"], ["stems"]])
+            wanted, earlier = rows.read("changes", own.lines), changes
+            changes = rows.read("changes", other.ask(["changes"]).lines)
+            self.assertEqual(differences.between(before, stems.lines), wanted, (i, edit))
+            self.assertEqual(differences.by_mark(mark, earlier, changes), wanted, (i, edit))
+            seen += len(wanted)
+        self.assertGreater(seen, 100)
 
     def test_begun_anew_after_a_kill(self):
         program = self.begin(example("author.sbl"), example("author.words"))

@@ -4,6 +4,7 @@ import time
 from typing import Any, Callable, Dict, List, NamedTuple, Optional, Sequence, Set, Tuple
 
 from . import rows
+from .differences import AtMark, at_mark, between, by_mark
 from .kept import FileState, Kept, is_same, read_file, state_of, write_file
 from .places import LARGEST, Places
 from .program import BROKEN, DONE, ENDED, USUAL_LIMIT, Moment, Program, Reply, Skipped
@@ -113,6 +114,8 @@ class Bench(Stage):
         # The file that has the last of these texts if undo does not; what was rescued and is taken back, with the names of its edits.
         self.aside_path, self.undone = "", (b"", ())  # type: str, Tuple[bytes, Sequence[str]]
         self.families, self.pairs = "", ()  # type: str, Tuple[Any, ...]
+        # The words at the mark, with the mark and the hash of the list for which this holds.
+        self.at_mark: Optional[Tuple[Any, AtMark]] = None
 
     # Beginning and ending
 
@@ -210,7 +213,7 @@ class Bench(Stage):
         program, count = self.program, len(self.program.steps)
         if reply.state == DONE:
             return reply
-        was_summing, program.is_summing = program.is_summing, False
+        was_summing, program.is_summing, self.at_mark = program.is_summing, False, None
         self.on_restart(reply)
         if not program.begin_anew():
             return reply._replace(state="lost")
@@ -231,21 +234,29 @@ class Bench(Stage):
             if os.path.exists(self.script) and not os.path.isfile(self.script):
                 # (the program would wait for who writes to a pipe)
                 return Edit(word, Reply(DONE, ["no 57 NoFile"], []), self.changes)
-        # (what it changes is seen by the stems before and after it, but for an edit of what is the mark)
-        is_asked = has_own and bool(self.changes or self.program.now.words != self.program.marked.words)
-        history, *stems, reply = self.program.ask_each([["history"], *[["stems"]] * is_asked, lines])
+        # (if words were added or removed since the mark, what it changes is seen by the stems before and after it)
+        now, marked, key = self.program.now, self.program.marked, (self.program.marked, self.words_text)
+        is_over_others = now.words != marked.words or any(row.kind in ("added", "removed") for row in self.changes)
+        # (of an edit of what is the mark it is what differs from the mark)
+        is_asked = has_own and (is_over_others or bool(self.changes))
+        asks_stems = is_asked and (is_over_others or self.at_mark is None or self.at_mark[0] != key)
+        history, *stems, reply = self.program.ask_each([["history"], *[["stems"]] * asks_stems, lines])
         if reply.is_done:
+            if asks_stems and not is_over_others:
+                self.at_mark = key, at_mark(stems[0].lines, self.changes)
+            before_it = None if not is_asked else stems[0].lines if is_over_others else self.at_mark
             self.on_accepted()
             self.last_words = ""
-            edit = self.edited(Edit(word, reply), lines, rows.read("history", history.lines), had_fault, [reply.lines for reply in stems])
+            edit = self.edited(Edit(word, reply), lines, rows.read("history", history.lines), had_fault, before_it)
         else:
             edit = Edit(word, self.settled(reply), self.changes)
         if word == "reload":
             self.refused_text = None if edit.reply.is_done else read
         return edit
 
-    def edited(self, edit: Edit, lines: Sequence[str], history: Sequence[Any], had_fault: bool, before_it: Sequence[List[str]]) -> Edit:
-        """Completes an accepted edit: what it changed, by the stems before it, if these are known; and what became of the texts before it."""
+    def edited(self, edit: Edit, lines: Sequence[str], history: Sequence[Any], had_fault: bool, before_it: Any) -> Edit:
+        """Completes an accepted edit: what it changed, by the words at the mark or by the stems before it, if it has them; and what became of
+        the texts before it."""
         program, before, word, is_file = self.program, self.program.now, edit.command, lines[0].startswith("replace ") and edit.command == "replace"
         families = [["families " + self.families]] if self.families else []
         told, steps = program.ask_each([["text", "echo"], ["history"]], has_grace=True)
@@ -259,7 +270,7 @@ class Bench(Stage):
         program.now = before._replace(text=text, limit=limits[-1] if step and step.command == "limit" else before.limit)
         if done != history or program.now != before:
             program.note(lines, program.took)
-        changes, stems, *pairs = program.ask_each([["changes"], ["stems" if before_it else "echo"], *families], has_grace=True)
+        changes, stems, *pairs = program.ask_each([["changes"], ["stems" if isinstance(before_it, list) else "echo"], *families], has_grace=True)
         if program.state != DONE:
             # (the program that is there again has made this edit, too)
             there = self.settled(Reply(program.state, [], []))
@@ -270,7 +281,11 @@ class Bench(Stage):
         elif word not in ("reload", "undo", "redo") and text not in (before.text, self.file_text):
             # (it was typed, also if it is as one that was read before)
             self.read_texts.discard(hash(text))
-        self.changes = rows.read("changes", changes.lines)
+        earlier, self.changes, own = self.changes, rows.read("changes", changes.lines), None  # type: Any, Any, Any
+        if isinstance(before_it, tuple):
+            own = by_mark(before_it[1], earlier, self.changes)
+        elif before_it is not None and stems.is_done:
+            own = between(before_it, stems.lines)
         found = pairs_of(*pairs)
         figures, self.pairs = (*(self.pairs or found), *found) if found else (), found or self.pairs
         note = self.note_on(word, before, had_fault, done == history)
@@ -279,8 +294,7 @@ class Bench(Stage):
         if aside is not None:
             self.aside_path = os.path.join(self.kept.room, "aside") if done == history else ""
         return edit._replace(
-            changes=self.changes, own=rows.between(before_it[0], stems.lines) if before_it and stems.is_done else None,
-            pairs=figures, step=step if word in ("undo", "redo") else None,
+            changes=self.changes, own=own, pairs=figures, step=step if word in ("undo", "redo") else None,
             note=note, aside=aside, aside_path=self.aside_path if aside is not None else "",
             step_names=self.rescued.get(hash((before if word == "undo" else program.now).text), ()) if word in ("undo", "redo", "replace") else (),
         )

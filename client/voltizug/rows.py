@@ -1,9 +1,8 @@
 """The rows of replies as named tuples, by the tables of docs/REFERENCE.md."""
 import csv
 from collections import namedtuple
-from itertools import chain, compress, groupby
-from operator import itemgetter, methodcaller, ne, not_
-from typing import Any, Dict, Iterable, List, NamedTuple, Set, Tuple
+from itertools import groupby
+from typing import Any, Dict, Iterable, List, NamedTuple, Tuple
 
 PLACE = " start end line column"
 # By report the kinds of its rows with their fields; one that begins with a star takes all that is left.
@@ -47,11 +46,6 @@ def rows_of(lines: Iterable[str]) -> List[List[str]]:
     return list(csv.reader(line + "\n" for line in lines))
 
 
-def fields_of(lines: Iterable[str]) -> List[List[str]]:
-    """Returns the rows in lines without a quote."""
-    return [line.split(",") for line in lines]
-
-
 def read(report: str, lines: Iterable[str]) -> List[Any]:
     """Returns the rows of a report as tuples with the fields of its table. A row of a kind that is not in the table is left out."""
     table, kinds = TABLE[report], KINDS[report]
@@ -59,30 +53,6 @@ def read(report: str, lines: Iterable[str]) -> List[Any]:
     heads = {kind: len(kinds[kind]._fields) - 1 for kind in kinds if "*" in table[kind]}
     found = [row for row in rows_of(lines) if row and row[0] in table]
     return [kinds[row[0]](*row[: heads[row[0]]], tuple(row[heads[row[0]] :])) if row[0] in heads else kinds[row[0]]._make(row) for row in found]
-
-
-def between(before: List[str], after: List[str]) -> List[Any]:
-    """Returns the rows of `changes` from one reply to `stems` to another one over the same words."""
-    make, read, still = KINDS["changes"], rows_of, set()  # type: Any, Any, Set[str]
-    if '"' not in "".join(before) + "".join(after):
-        # (each row is a line, which ends with its stem: only those that differ are read)
-        differs, read = list(map(ne, before, after)), fields_of
-        still = set(map(itemgetter(2), map(methodcaller("rpartition", ",stem,"), compress(before, map(not_, differs)))))
-        before, after = list(compress(before, differs)), list(compress(after, differs))
-    pairs = list(zip(read(before), read(after)))
-    changed = [make["changed"]("changed", *old, *new[1:]) for old, new in pairs if old != new]
-    # (a word whose run is refused is in no class)
-    moves = {(old[2], new[2]) for old, new in pairs if old[1] == new[1] == "stem"}
-    moves.update((stem, stem) for stem in still.intersection(chain.from_iterable(moves)))
-    to, of = {}, {}  # type: Dict[str, Set[str]], Dict[str, Set[str]]
-    for old, new in moves:
-        to.setdefault(old, set()).add(new)
-        of.setdefault(new, set()).add(old)
-    split = [make["split"]("split", old, tuple(sorted(news))) for old, news in sorted(to.items()) if len(news) > 1]
-    merged = [make["merged"]("merged", new, tuple(sorted(olds))) for new, olds in sorted(of.items()) if len(olds) > 1]
-    ways = [(old, min(news)) for old, news in sorted(to.items()) if len(news) == 1]
-    renamed = [make["renamed"]("renamed", old, new) for old, new in ways if old != new and of[new] == {old}]
-    return changed + split + merged + renamed
 
 
 def names_of(row: Any) -> List[str]:

@@ -16,7 +16,7 @@ from typing import Any, Callable, Dict, List, Optional, Sequence, Tuple
 
 HISTORY, INTERRUPT, PAUSE = 2000, b"\x03", 0.1
 # How often files are looked at, and how soon again after a change (a file may still be being written); how often signals are if no file is.
-PERIOD, SOON, REST = 0.03, 0.005, 0.5
+PERIOD, SOON, REST = 0.02, 0.005, 0.5
 # Of readline's state: its callbacks are installed.
 CALLBACK = 0x80000
 
