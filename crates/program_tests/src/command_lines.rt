@@ -37,6 +37,9 @@ snowbench compare a --rows b c: Wanted { verb: Compare, external: \"stem\", opti
 snowbench compare a b c --external go: Wanted { verb: Compare, external: \"go\", options: Options { script: None, old: Some(\"a\"), new: Some(\"b\"), words: Some(\"c\"), commands: None, stems: None, is_strict: false, shows_places: false, face: None, from: None, stop: None, form: None } }
 snowbench work a --from b --rows c: Wanted { verb: Work, external: \"stem\", options: Options { script: Some(\"a\"), old: None, new: None, words: Some(\"c\"), commands: None, stems: None, is_strict: false, shows_places: false, face: Some(Rows), from: Some(\"b\"), stop: None, form: None } }
 snowbench work --stop s a: Wanted { verb: Work, external: \"stem\", options: Options { script: Some(\"a\"), old: None, new: None, words: None, commands: None, stems: None, is_strict: false, shows_places: false, face: None, from: None, stop: Some(\"s\"), form: None } }
+snowbench session --places: Wanted { verb: Session, external: \"stem\", options: Options { script: None, old: None, new: None, words: None, commands: None, stems: None, is_strict: false, shows_places: true, face: None, from: None, stop: None, form: None } }
+snowbench stem --places: Wanted { verb: Stem, external: \"stem\", options: Options { script: None, old: None, new: None, words: None, commands: None, stems: None, is_strict: false, shows_places: true, face: None, from: None, stop: None, form: None } }
+snowbench filter --places a b: Wanted { verb: Filter, external: \"stem\", options: Options { script: Some(\"a\"), old: None, new: None, words: Some(\"b\"), commands: None, stems: None, is_strict: false, shows_places: true, face: None, from: None, stop: None, form: None } }
 snowbench work a --stop: refused
 snowbench work a --from: refused
 snowbench run a --from b: refused
@@ -44,6 +47,12 @@ snowbench compare a b: refused
 snowbench compare a b c d: refused
 snowbench compare --text a b c: refused
 snowbench compare --places a b c: refused
+snowbench filter --strict: refused
+snowbench check --strict: refused
+snowbench session --as tsv: refused
+snowbench session --rows: refused
+snowbench run --places a: refused
+snowbench work --strict a: refused
 snowbench: refused
 snowbench session --external: refused
 snowbench session --external a --external b: refused
