@@ -234,10 +234,10 @@ class Bench(Stage):
             if os.path.exists(self.script) and not os.path.isfile(self.script):
                 # (the program would wait for who writes to a pipe)
                 return Edit(word, Reply(DONE, ["no 57 NoFile"], []), self.changes)
-        # (if words were added or removed since the mark, what it changes is seen by the stems before and after it)
+        # (if words were added or removed since the mark, the stems before and after the edit say what it changes)
         now, marked, key = self.program.now, self.program.marked, (self.program.marked, self.words_text)
         is_over_others = now.words != marked.words or any(row.kind in ("added", "removed") for row in self.changes)
-        # (of an edit of what is the mark it is what differs from the mark)
+        # (if nothing differs from the mark before the edit, what differs after it says that)
         is_asked = has_own and (is_over_others or bool(self.changes))
         asks_stems = is_asked and (is_over_others or self.at_mark is None or self.at_mark[0] != key)
         history, *stems, reply = self.program.ask_each([["history"], *[["stems"]] * asks_stems, lines])

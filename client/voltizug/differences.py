@@ -1,7 +1,8 @@
 """What an edit changed itself, as rows of `changes`. The program says what differs from the mark."""
 from collections import Counter
-from itertools import chain
-from typing import Any, Dict, Iterable, List, NamedTuple, Sequence, Set, Tuple
+from itertools import chain, compress
+from operator import ne, not_
+from typing import Any, Callable, Dict, Iterable, List, NamedTuple, Sequence, Set, Tuple
 
 from . import rows
 
@@ -35,13 +36,19 @@ def by_mark(mark: AtMark, before: Iterable[Any], after: Iterable[Any]) -> List[A
 
 def between(before: Sequence[str], after: Sequence[str]) -> List[Any]:
     """Returns what differs between two replies to `stems` over the same words."""
+    kept = set()  # type: Set[str]
+    if '"' not in "".join(before) + "".join(after):
+        # (each row is a line, which ends with its stem: only those that differ are read)
+        differs = list(map(ne, before, after))
+        kept = {line.rpartition(",stem,")[2] for line in compress(before, map(not_, differs))}
+        before, after = list(compress(before, differs)), list(compress(after, differs))
     pairs = [(old[0], (old[1], old[2]), (new[1], new[2])) for old, new in zip(rows.rows_of(before), rows.rows_of(after))]
-    return differing(pairs, lambda stem: False)
+    return differing(pairs, kept.__contains__)
 
 
-def differing(pairs: Sequence[Tuple[str, Any, Any]], is_kept: Any) -> List[Any]:
-    """Returns the rows of words that differ, each with its outcomes, and of their classes. The words left out do not differ: `is_kept` says
-    whether one of these has a stem."""
+def differing(pairs: Sequence[Tuple[str, Any, Any]], is_kept: Callable[[str], bool]) -> List[Any]:
+    """Returns the rows of the words that differ, and of their classes. Each pair is a word with its outcomes. Words that do not differ may be
+    left out: `is_kept` says whether one of these has a stem."""
     changed = [MAKE["changed"]("changed", word, *old, *new) for word, old, new in pairs if old != new]
     # (a word whose run is refused is in no class)
     moves = {(old[1], new[1]) for _, old, new in pairs if old[0] == new[0] == "stem"}
